@@ -1,0 +1,104 @@
+// Seconds, and grains below one second.
+ghost use Rattle.std.specs.Prelude.{◌≡◌, ◌*◌, ◌^◌, ◌<◌, pos, ◌+ℤ◌, ◌-ℤ◌, FitsSigned};
+ghost use Rattle.std.specs.Int.{w128};
+ghost use Rattle.ff_grain.specs.Grains.{number_of, of_nanos};
+
+/// A time, or a distance of two times: whole seconds, and `frac` grains of 2^-64 s above them.
+///
+/// Each `i128` is the number of grains of exactly one `Bintime`: `sec * 2^64 + frac`. So -1 grain
+/// has the second -1 and the greatest fraction. After FreeBSD's `struct bintime`.
+#[derive(Clone, Copy, Debug, PartialEq, Eq)]
+pub struct Bintime {
+    pub sec: i64,
+    pub frac: u64,
+}
+
+/// The grains of a second.
+const SECOND: i128 = 1 << 64;
+
+/// The nanoseconds of a second.
+const NANOS: u128 = 1_000_000_000;
+
+impl Bintime {
+    /// The number of grains.
+    pub fn grains(self) -> i128
+        ensures { result ≡ number_of self }
+    {
+        i128::from(self.sec) * SECOND + i128::from(self.frac)
+    }
+
+    /// The time of so many grains, of which there is one.
+    pub fn of_grains(g: i128) -> Bintime
+        ensures { number_of result ≡ g }
+    {
+        Bintime {
+            sec: g.div_euclid(SECOND) as i64,
+            frac: g.rem_euclid(SECOND) as u64,
+        }
+    }
+
+    /// The sum. Its number of grains has to fit in an `i128`.
+    pub fn add(self, o: Bintime) -> Bintime
+        requires { FitsSigned w128 (number_of self +ℤ number_of o) }
+        ensures { number_of result ≡ number_of self +ℤ number_of o }
+    {
+        Bintime::of_grains(self.grains() + o.grains())
+    }
+
+    /// The difference. Its number of grains has to fit in an `i128`.
+    pub fn sub(self, o: Bintime) -> Bintime
+        requires { FitsSigned w128 (number_of self -ℤ number_of o) }
+        ensures { number_of result ≡ number_of self -ℤ number_of o }
+    {
+        Bintime::of_grains(self.grains() - o.grains())
+    }
+}
+
+/// The time that `delta` counts take at a period of `period` grains per count, exactly.
+///
+/// Counts are below 2^62 and a period below 2^55. After FreeBSD's `ffclock_convert_delta`, which
+/// multiplies in pieces.
+pub fn convert_delta(delta: u64, period: u64) -> Bintime
+    requires delta { delta < 2 ^ 62 }
+    requires period { period < 2 ^ 55 }
+    ensures { number_of result ≡ pos (delta * period) }
+{
+    let grains = u128::from(delta) * u128::from(period);
+    Bintime::of_grains(grains as i128)
+}
+
+/// So many seconds and nanoseconds, rounded down to a whole grain.
+///
+/// Seconds are below 2^63 and nanoseconds below 10^9.
+pub fn from_nanos(sec: u64, nanos: u32) -> Bintime
+    requires sec { sec < 2 ^ 63 }
+    requires nanos { nanos < 1000000000 }
+    ensures { result ≡ of_nanos sec nanos }
+{
+    let frac = (u128::from(nanos) << 64) / NANOS;
+    Bintime {
+        sec: sec as i64,
+        frac: frac as u64,
+    }
+}
+
+#[cfg(test)]
+mod tests {
+    use super::*;
+
+    #[test]
+    fn conversions_are_exact(rt: HostRuntime) {
+        let second = convert_delta(1_000_000_000, 18_446_744_073);
+        let wanted = Bintime {
+            sec: 0,
+            frac: 18_446_744_073_000_000_000,
+        };
+        assert_eq!(rt; second, wanted);
+        assert_eq!(rt; from_nanos(0, 1).grains(), 18_446_744_073);
+        let below = Bintime {
+            sec: -1,
+            frac: 18_446_744_073_709_551_615,
+        };
+        assert_eq!(rt; Bintime::of_grains(-1), below);
+    }
+}

@@ -1,0 +1,8 @@
+//! Times as whole numbers of grains. A grain is 2^-64 s, so a second has 2^64 grains.
+#![tactic(auto)]
+
+mod bintime;
+mod memory;
+
+pub use bintime::{Bintime, convert_delta, from_nanos};
+pub use memory::NoMemory;

@@ -1,0 +1,18 @@
+// Want of memory.
+use std::alloc::{AllocError, AllocFailed};
+
+/// Memory was asked for and not given. It is the one error that no call has another cause for.
+#[derive(Clone, Copy, Debug, PartialEq, Eq)]
+pub struct NoMemory;
+
+impl From<AllocError> for NoMemory {
+    fn from(_error: AllocError) -> NoMemory {
+        NoMemory
+    }
+}
+
+impl<T: Drop> From<AllocFailed<T>> for NoMemory {
+    fn from(_error: AllocFailed<T>) -> NoMemory {
+        NoMemory
+    }
+}

@@ -1,0 +1,17 @@
+//! The outside of the program as two traits: a source of bytes and a sink for them, each with a
+//! count of its faults.
+#![tactic(auto)]
+
+mod memory;
+mod sink;
+mod source;
+mod streams;
+
+pub use memory::{MemSink, MemSource};
+pub use sink::Sink;
+pub use source::Source;
+pub use streams::{StdSink, StdSource};
+
+/// A pull or a push failed.
+#[derive(Clone, Copy, Debug, PartialEq, Eq)]
+pub struct Failed;

@@ -1,0 +1,3 @@
+//! to come
+#![tactic(auto)]
+fn main(_rt: HostRuntime) {}
