@@ -1,6 +1,9 @@
 -- What contracts see of the source and the sink in memory, and what a call does to them.
-use Rattle.std.specs.Prelude.{◌≡◌, ℕ, ◌+◌, ◌/◌, ◌<◌, ◌≤◌, ◌⊎◌, ◌↔◌, List, [], ◌++◌, length, take, drop, min, Contains, Result, IsErr, IfOk, OnErr, OnOk, if◌then◌else◌, nat_lt}
-use Rattle.rad_io.specs.Causes.{raised}
+use Rattle.std.specs.Prelude.{◌≡◌, ℕ, ◌+◌, ◌/◌, ◌<◌, ◌≤◌, ◌⊎◌, ◌↔◌, List, [], ◌++◌, length, take, min, Contains, Result, IsErr, IfOk, OnErr, Some, if◌then◌else◌, nat_lt}
+use Rattle.std.specs.Io.{ReadsAtMost}
+use Rattle.std.specs.Io.KnownBytes.{ReadConsumes}
+use Rattle.rad_io.specs.Bytes.{PushAppends}
+use Rattle.rad_io.specs.Causes.{raised, HasCause}
 use Rattle.rad_io.specs.declared.Failed.{Failed}
 
 -- what is left, the most bytes of a pull, the numbers of the pulls that fail, the number of the
@@ -20,12 +23,11 @@ count_of s room = min s.step (min (length room) (length s.left))
 pub record SupplyGives (old : Supply) (room : List ℕ) (result : Result ℕ Failed) (room' : List ℕ) (new : Supply) : Type 0 where
   pub fails : IsErr result ↔ Contains old.failing old.pulls
   pub count : IfOk result (λ n. n ≡ count_of old room)
-  pub bytes : IfOk result (λ n. old.left ≡ take n room' ++ new.left)
-  pub size : length room' ≡ length room
-  pub untaken : OnErr result (new.left ≡ old.left)
-  pub number : new.pulls ≡ raised old.pulls
+  pub within : ReadsAtMost result room'
+  pub bytes : ReadConsumes (Some old.left) (Some new.left) result room'
+  pub cause : HasCause old.faults new.faults result
   pub rose : OnErr result (new.faults ≡ raised old.faults)
-  pub kept : OnOk result (new.faults ≡ old.faults)
+  pub number : new.pulls ≡ raised old.pulls
   pub step : new.step ≡ old.step
   pub failing : new.failing ≡ old.failing
 
@@ -49,10 +51,10 @@ part_of s piece = if nat_lt s.room (length s.written + length piece) then [] els
 -- a push fails exactly where the sink refuses it
 pub record StoreGives (old : Store) (piece : List ℕ) (result : Result (Unit {0}) Failed) (new : Store) : Type 0 where
   pub fails : IsErr result ↔ Refuses old (length piece)
-  pub whole : OnOk result (new.written ≡ old.written ++ piece)
+  pub bytes : PushAppends (Some old.written) (Some new.written) result piece
   pub part : OnErr result (new.written ≡ old.written ++ part_of old piece)
-  pub number : new.pushes ≡ raised old.pushes
+  pub cause : HasCause old.faults new.faults result
   pub rose : OnErr result (new.faults ≡ raised old.faults)
-  pub kept : OnOk result (new.faults ≡ old.faults)
+  pub number : new.pushes ≡ raised old.pushes
   pub room : new.room ≡ old.room
   pub failing : new.failing ≡ old.failing

@@ -65,11 +65,11 @@ impl Source for MemSource {
 
     ghost pull_gives = { SupplyGives };
 
-    ghost within = { ? };
+    ghost within = { λ old new room room' r gives. gives.within };
 
-    ghost consumes = { ? };
+    ghost consumes = { λ old new room room' r gives. gives.bytes };
 
-    ghost cause = { ? };
+    ghost cause = { λ old new room room' r gives. gives.cause };
 
     fn pull(&mut self, room: &mut [u8]) -> Result<usize, Failed> {
         let number = self.pulls;
@@ -137,9 +137,9 @@ impl Sink for MemSink {
 
     ghost push_gives = { StoreGives };
 
-    ghost appends = { ? };
+    ghost appends = { λ old new piece r gives. gives.bytes };
 
-    ghost cause = { ? };
+    ghost cause = { λ old new piece r gives. gives.cause };
 
     fn push(&mut self, piece: &[u8]) -> Result<(), Failed> {
         let number = self.pushes;
