@@ -2,3 +2,5 @@ pub mod Causes
 pub mod Bytes
 pub mod Memory
 pub mod Streams
+pub mod Pulls
+pub mod Pushes

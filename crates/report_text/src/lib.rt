@@ -1,2 +1,11 @@
-//! to come
+//! The lines of a report. Each call makes one whole line with its line end and pushes it at once.
 #![tactic(auto)]
+
+mod line;
+mod lines;
+mod names;
+
+pub use lines::{
+    EndCounts, FaultText, Limit, ReportHead, end_line, fault_line, head_line, refused_line,
+    stamp_line,
+};

@@ -1,0 +1,6 @@
+pub mod Stopping
+pub mod Gathering
+pub mod Pieces
+pub mod Underway
+pub mod Progress
+pub mod Endings

@@ -1,0 +1,71 @@
+-- What an input says, and where it is not read further.
+use Rattle.std.specs.Prelude.{◌≡◌, ℕ, ◌≤◌, List, [], ◌∷◌, length, take, if◌then◌else◌, nat_lt, Option, None, Some}
+use Rattle.std.specs.List.{All}
+use Rattle.std.specs.Option.{option_map}
+use Rattle.stamp_text.specs.Accepted.{IsTimed}
+use Rattle.stamp_text.specs.Grammar.{given, given_of_file, fault_so_far, fault_of_file}
+use Rattle.stamp_text.specs.declared.lines.Line.{Line}
+use Rattle.stamp_text.specs.declared.lines.Line.TheVariants as gives
+use Rattle.stamp_text.specs.declared.lines.LineFault.{LineFault}
+use Rattle.report_text.specs.declared.lines.Limit.TheVariants as limit
+use Rattle.radclock.specs.declared.inputs.StampFile.{StampFile}
+use Rattle.radclock.specs.declared.inputs.StampLine.{StampLine}
+use Rattle.radclock.specs.declared.inputs.Stop.{Stop}
+use Rattle.radclock.specs.declared.inputs.Stop.TheVariants as stop
+
+-- the stamps among lines, each with the number of its line
+abbrev pub stamps_in : List Line → List StampLine
+stamps_in [] = []
+stamps_in (gives.Head h ∷ lines) = stamps_in lines
+stamps_in (gives.Stamp n s ∷ lines) = record { line = n; stamp = s } ∷ stamps_in lines
+
+-- the frequency after lines, behind a frequency: that of their last head
+abbrev pub freq_after : ℕ → List Line → ℕ
+freq_after freq [] = freq
+freq_after freq (gives.Head h ∷ lines) = freq_after h.freq lines
+freq_after freq (gives.Stamp n s ∷ lines) = freq_after freq lines
+
+abbrev pub first_stop : Option Stop → Option Stop → Option Stop
+first_stop None later = later
+first_stop (Some s) later = Some s
+
+-- what stops the reading of lines and their fault. Lines are given up to the first fault, so a
+-- limit that they pass stands before it.
+abbrev pub stop_by : List Line → Option LineFault → Option Stop
+stop_by lines fault = if nat_lt 65536 (length (stamps_in lines)) then Some (stop.Large limit.Stamps) else option_map stop.Fault fault
+
+-- the same of bytes that may go on, as many as are read
+unfoldable pub stop_within : List ℕ → Option Stop
+stop_within text = stop_by (given text) (fault_so_far text)
+
+-- more bytes than are read
+abbrev pub bytes_stop : List ℕ → Option Stop
+bytes_stop text = if nat_lt 16777216 (length text) then Some (stop.Large limit.Bytes) else None
+
+-- the first stop, in the order of the bytes, of an input that may go on
+unfoldable pub stop_so_far : List ℕ → Option Stop
+stop_so_far text = first_stop (stop_within (take 16777216 text)) (bytes_stop text)
+
+-- the first stop, in the order of the bytes, of a whole input
+unfoldable pub stop_of_file : List ℕ → Option Stop
+stop_of_file text = if nat_lt 16777216 (length text) then stop_so_far text else stop_by (given_of_file text) (fault_of_file text)
+
+-- the frequency and the stamps of a whole input
+unfoldable pub freq_of_file : List ℕ → ℕ
+freq_of_file text = freq_after 0 (given_of_file text)
+
+unfoldable pub stamps_of_file : List ℕ → List StampLine
+stamps_of_file text = stamps_in (given_of_file text)
+
+-- a frequency and stamps in their ranges
+pub record IsRanged (freq : ℕ) (stamps : List StampLine) : Type 0 where
+  pub low : 1000000 ≤ freq
+  pub high : freq ≤ 16000000000
+  pub timed : All (λ x. IsTimed x.stamp) stamps
+
+-- what was read is that of a whole input that nothing stops
+pub record IsFileOf (file : StampFile) (text : List ℕ) : Type 0 where
+  pub sound : stop_of_file text ≡ None
+  pub freq : file.freq ≡ freq_of_file text
+  pub stamps : file.stamps.items ≡ stamps_of_file text
+  pub ranged : IsRanged file.freq file.stamps.items

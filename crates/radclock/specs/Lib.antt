@@ -1,0 +1,7 @@
+pub mod Words
+pub mod Inputs
+pub mod Readings
+pub mod Reports
+pub mod Tallies
+pub mod Statuses
+pub mod Runs

@@ -1,0 +1,38 @@
+// What an input gives.
+use report_text::Limit;
+use stamp_text::{LineFault, Stamp};
+
+/// The most bytes of an input.
+pub const MOST_BYTES: u64 = 16_777_216;
+
+/// The most well-formed stamp lines of an input.
+pub const MOST_STAMPS: usize = 65_536;
+
+/// A well-formed stamp and the number of its line, from 1.
+#[derive(Clone, Copy, Debug, PartialEq, Eq)]
+pub struct StampLine {
+    pub line: u64,
+    pub stamp: Stamp,
+}
+
+/// What the lines of an input have given.
+#[derive(Drop)]
+pub struct StampFile {
+    /// The counter's nominal frequency in Hz; 0 before the head.
+    pub freq: u64,
+    /// The stamps in the order of their lines.
+    pub stamps: Vec<StampLine>,
+}
+
+/// Why an input is not read to its end, or not taken.
+#[derive(Clone, Copy, Debug, PartialEq, Eq)]
+pub enum Stop {
+    /// Memory was wanting.
+    Memory,
+    /// A pull failed after so many bytes were taken.
+    Read { taken: u64 },
+    /// The input is not in the grammar.
+    Fault(LineFault),
+    /// The input passes a limit.
+    Large(Limit),
+}

@@ -1,0 +1,107 @@
+// The report on a file, for all commands that tell of each stamp.
+ghost use Rattle.std.specs.Prelude.{◌≡◌, ◌+◌, ◌≤◌, ◌<◌, ◌^◌, ℕ, List, [], ◌∷◌, ◌++◌, length, IfOk, IfSome, OnOk, MatchResult, Ok, Err};
+ghost use Rattle.rad_io.specs.Pushes.{Writes};
+ghost use Rattle.stamp_text.specs.Accepted.{IsTimed, accept_of};
+ghost use Rattle.stamp_text.specs.declared.lines.Stamp.{Stamp};
+ghost use Rattle.radclock.specs.Inputs.{IsRanged};
+ghost use Rattle.radclock.specs.Reports.{report, outcomes, last_of, accepted_with, told_of, IsNext};
+ghost use Rattle.radclock.specs.Tallies.{StandsAt, Counts};
+
+use crate::inputs::{StampFile, StampLine};
+use rad_io::{Failed, Sink};
+use report_text::{EndCounts, ReportHead, end_line, head_line, refused_line};
+use stamp_text::{Stamp, accept};
+
+/// What a command tells of each accepted stamp.
+pub trait Telling {
+    /// The value stands for these accepted stamps of a counter with this frequency.
+    ghost stands: { Self → ℕ → List Stamp → Type 0 };
+
+    /// The line of a stamp that is accepted behind these, at this frequency.
+    ghost says: { ℕ → List Stamp → Stamp → List ℕ };
+
+    /// Pushes the line of the accepted stamp with this index, from 0. It takes no memory.
+    fn tell<K: Sink>(&mut self, sink: &mut K, index: u64, stamp: &Stamp) -> Result<(), Failed>
+        requires timed { IsTimed stamp.now }
+        requires forward { stamp.now.ta ≤ stamp.now.tf }
+        requires next { IsNext stands self.old index stamp.now }
+        ensures line { (freq : ℕ) (accepted : List Stamp) → length accepted ≡ index → stands self.old freq accepted → K.push_gives sink.old (says freq accepted stamp.now) result sink.new }
+        ensures stands { OnOk result ((freq : ℕ) (accepted : List Stamp) → length accepted ≡ index → stands self.old freq accepted → stands self.new freq (accepted ++ stamp.now ∷ [])) };
+}
+
+/// How far a report has come.
+#[derive(Clone, Copy, Debug, PartialEq, Eq)]
+pub struct Tally {
+    /// The last accepted stamp.
+    pub prev: Option<Stamp>,
+    pub accepted: u64,
+    pub refused: u64,
+}
+
+// Pushes the line of a stamp.
+fn push_stamp<K: Sink, T: Telling>(
+    sink: &mut K,
+    telling: &mut T,
+    freq: u64,
+    tally: Tally,
+    x: &StampLine,
+) -> Result<Tally, Failed>
+    requires low { 1000000 ≤ freq }
+    requires high { freq ≤ 16000000000 }
+    requires before { IfSome tally.prev IsTimed }
+    requires now { IsTimed x.now.stamp }
+    requires few { tally.accepted + tally.refused < 2 ^ 63 }
+    requires at { (accepted : List Stamp) × StandsAt T.stands telling.old freq tally accepted }
+    ensures line { (accepted : List Stamp) → StandsAt T.stands telling.old freq tally accepted → MatchResult result (λ _. K.push_gives sink.old (told_of (T.says freq) accepted x.now.line x.now.stamp (accept_of (last_of accepted) x.now.stamp freq)) (Ok tt) sink.new) (λ e. K.push_gives sink.old (told_of (T.says freq) accepted x.now.line x.now.stamp (accept_of (last_of accepted) x.now.stamp freq)) (Err e) sink.new) }
+    ensures next { IfOk result (λ t. (accepted : List Stamp) → StandsAt T.stands telling.old freq tally accepted → StandsAt T.stands telling.new freq t (accepted_with accepted x.now.stamp (accept_of (last_of accepted) x.now.stamp freq))) }
+    ensures counts { IfOk result (λ t. Counts tally t (accept_of tally.prev x.now.stamp freq)) }
+    ensures timed { IfOk result (λ t. IfSome t.prev IsTimed) }
+{
+    match accept(tally.prev.as_ref(), &x.stamp, freq) {
+        Ok(()) => {
+            telling.tell(sink, tally.accepted, &x.stamp)?;
+            Ok(Tally {
+                prev: Some(x.stamp),
+                accepted: tally.accepted + 1,
+                refused: tally.refused,
+            })
+        }
+        Err(why) => {
+            refused_line(sink, x.line, why)?;
+            Ok(Tally {
+                prev: tally.prev,
+                accepted: tally.accepted,
+                refused: tally.refused + 1,
+            })
+        }
+    }
+}
+
+/// Pushes the report on a file: its head, a line for each stamp, and its end. It takes no memory.
+pub fn push_report<K: Sink, T: Telling>(
+    sink: &mut K,
+    telling: &mut T,
+    head: &ReportHead,
+    file: &StampFile,
+) -> Result<(), Failed>
+    requires ranged { IsRanged file.now.freq file.now.stamps.items }
+    requires fresh { T.stands telling.old file.now.freq [] }
+    ensures { Writes K.written K.faults K.push_gives sink.old (report head.now (T.says file.now.freq) (outcomes file.now.freq [] file.now.stamps.items)) result sink.new }
+{
+    head_line(sink, head)?;
+    let mut tally = Tally {
+        prev: None,
+        accepted: 0,
+        refused: 0,
+    };
+    for x in &file.stamps {
+        tally = push_stamp(sink, telling, file.freq, tally, x)?;
+    }
+    let counts = EndCounts {
+        accepted: tally.accepted,
+        refused: tally.refused,
+        ticks: None,
+        entries: None,
+    };
+    end_line(sink, &counts)
+}

@@ -1,0 +1,86 @@
+// A line that is being made.
+ghost use Rattle.std.specs.Prelude.{◌≡◌, ◌+◌, ◌≤◌, [], ◌++◌, length};
+ghost use Rattle.report_text.specs.Text.{time_text, count_text};
+
+use arrayvec::ArrayVec;
+use ff_grain::Bintime;
+use itoa::{Buffer, Integer};
+use std::marker::Model;
+
+/// The most bytes of a line with its line end.
+const MOST: usize = 640;
+
+/// The bytes of a line so far.
+#[derive(Drop)]
+pub struct LineText {
+    bytes: ArrayVec<u8, MOST>,
+}
+
+impl Model for LineText {
+    ghost use Rattle.std.specs.Prelude.{ℕ, List};
+    ghost use Rattle.std.specs.Coded.{coded_list, coded_ℕ};
+
+    ghost Value = { List ℕ };
+
+    ghost coded = { coded_list coded_ℕ };
+
+    ghost view = { λ l. l.bytes.items };
+}
+
+impl LineText {
+    pub fn new() -> LineText
+        ensures { result ≡ [] }
+    {
+        LineText {
+            bytes: ArrayVec::new(),
+        }
+    }
+
+    /// Adds these bytes.
+    pub fn word(&mut self, word: &[u8])
+        requires { length self.old + length word.now ≤ 640 }
+        ensures { self.new ≡ self.old ++ word.now }
+    {
+        self.bytes.try_extend_from_slice(word).unwrap();
+    }
+
+    /// Adds a number in digits, with its sign where it is below 0.
+    pub fn number<I: Integer>(&mut self, n: I)
+        requires { length self.old + 40 ≤ 640 }
+        ensures text { self.new ≡ self.old ++ I.text n }
+        ensures short { length self.new ≤ length self.old + I.MAX_STR_LEN }
+        ensures most { length self.new ≤ length self.old + 40 }
+    {
+        let mut digits = Buffer::new();
+        self.word(digits.format(n).as_bytes());
+    }
+
+    /// Adds a time: its seconds, a plus sign, and its grains below one second.
+    pub fn time(&mut self, t: Bintime)
+        requires { length self.old + 81 ≤ 640 }
+        ensures text { self.new ≡ self.old ++ time_text t }
+        ensures short { length self.new ≤ length self.old + 41 }
+    {
+        self.number(t.sec);
+        self.word(b"+");
+        self.number(t.frac);
+    }
+
+    /// Adds a word and a number, where there is one.
+    pub fn count(&mut self, word: &[u8], count: Option<u64>)
+        requires { length self.old + length word.now + 40 ≤ 640 }
+        ensures text { self.new ≡ self.old ++ count_text word.now count }
+        ensures short { length self.new ≤ length self.old + length word.now + 20 }
+    {
+        if let Some(n) = count {
+            self.word(word);
+            self.number(n);
+        }
+    }
+
+    pub fn bytes(&self) -> &[u8]
+        ensures { result.now ≡ self.now }
+    {
+        self.bytes.as_slice()
+    }
+}

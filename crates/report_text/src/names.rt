@@ -1,0 +1,45 @@
+// The words of a report for causes, limits and refusals.
+ghost use Rattle.std.specs.Prelude.{◌≡◌, ◌≤◌, length};
+ghost use Rattle.report_text.specs.Text.{why_name, limit_name, refused_name};
+
+use crate::lines::Limit;
+use stamp_text::{Refused, Why};
+
+pub fn why_name(why: Why) -> &'static [u8]
+    ensures name { result.now ≡ why_name why }
+    ensures short { length result.now ≤ 9 }
+{
+    match why {
+        Why::Head => b"head",
+        Why::Freq => b"freq",
+        Why::Columns => b"columns",
+        Why::Digits => b"digits",
+        Why::Range => b"range",
+        Why::LongLine => b"long-line",
+    }
+}
+
+pub fn limit_name(limit: Limit) -> &'static [u8]
+    ensures name { result.now ≡ limit_name limit }
+    ensures short { length result.now ≤ 8 }
+{
+    match limit {
+        Limit::Bytes => b"bytes",
+        Limit::Stamps => b"stamps",
+        Limit::Accepted => b"accepted",
+    }
+}
+
+pub fn refused_name(why: Refused) -> &'static [u8]
+    ensures name { result.now ≡ refused_name why }
+    ensures short { length result.now ≤ 15 }
+{
+    match why {
+        Refused::Backward => b"backward",
+        Refused::ServerBackward => b"server-backward",
+        Refused::Overlap => b"overlap",
+        Refused::ServerOld => b"server-old",
+        Refused::LongTrip => b"long-trip",
+        Refused::Acausal => b"acausal",
+    }
+}

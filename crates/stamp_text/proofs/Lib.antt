@@ -1,0 +1,9 @@
+pub mod DigitLaws
+pub mod PlaceLaws
+pub mod StampLaws
+pub mod CutLaws
+pub mod GrammarLaws
+pub mod FeedLaws
+pub mod EndLaws
+pub mod RangeLaws
+pub mod GivenLaws

@@ -1,0 +1,60 @@
+-- Which stamps are accepted.
+use Rattle.std.specs.Prelude.{ℕ, pos, ◌-◌, ◌*◌, ◌<◌, ◌≤◌, ◌≤ℤ◌, ◌<ℤ◌, ◌-ℤ◌, int_lt, Bool, false, nat_le, nat_lt, if◌then◌else◌, List, [], ◌∷◌, Option, None, Some, Result, Ok, Err}
+use Rattle.ff_grain.specs.Grains.{number_of}
+use Rattle.ff_grain.specs.declared.bintime.Bintime.{Bintime}
+use Rattle.stamp_text.specs.Periods.{highest_period}
+use Rattle.stamp_text.specs.declared.accepts.Refused.{Refused}
+use Rattle.stamp_text.specs.declared.accepts.Refused.TheVariants as refused
+use Rattle.stamp_text.specs.declared.lines.Line.{Line}
+use Rattle.stamp_text.specs.declared.lines.Line.TheVariants as gives
+use Rattle.stamp_text.specs.declared.lines.Stamp.{Stamp}
+
+-- a time from 0 to below 2^32 s
+pub record IsTime (t : Bintime) : Type 0 where
+  pub low : pos 0 ≤ℤ t.sec
+  pub high : t.sec <ℤ pos 4294967296
+
+-- counters below 2^62, and such times
+pub record IsTimed (s : Stamp) : Type 0 where
+  pub ta : s.ta < 4611686018427387904
+  pub tf : s.tf < 4611686018427387904
+  pub tb : IsTime s.tb
+  pub te : IsTime s.te
+
+-- what a line gives is a head or a stamp in its ranges
+abbrev pub IsInRange : Line → Type 0
+IsInRange (gives.Head h) = (1000000 ≤ h.freq) × (h.freq ≤ 16000000000)
+IsInRange (gives.Stamp n s) = IsTimed s
+
+-- it was sent before the one before it was answered
+abbrev pub overlaps : Option Stamp → Stamp → Bool
+overlaps None s = false
+overlaps (Some p) s = nat_le s.ta p.tf
+
+-- the server's times go back behind those of the one before it
+abbrev pub is_old : Option Stamp → Stamp → Bool
+is_old None s = false
+is_old (Some p) s = int_lt (number_of s.tb) (number_of p.te)
+
+-- the server took longer than the round trip did, at the greatest period
+abbrev pub is_acausal : Stamp → ℕ → Bool
+is_acausal s freq = int_lt (pos ((s.tf - s.ta) * highest_period freq)) (number_of s.te -ℤ number_of s.tb)
+
+-- the tests of a stamp behind an accepted one, in their order, each with its refusal
+abbrev pub tests_of : Option Stamp → Stamp → ℕ → List (Bool × Refused)
+tests_of prev s freq =
+    (nat_le s.tf s.ta, refused.Backward)
+    ∷ (int_lt (number_of s.te) (number_of s.tb), refused.ServerBackward)
+    ∷ (overlaps prev s, refused.Overlap)
+    ∷ (is_old prev s, refused.ServerOld)
+    ∷ (nat_lt freq (s.tf - s.ta), refused.LongTrip)
+    ∷ (is_acausal s freq, refused.Acausal)
+    ∷ []
+
+-- the refusal of the first test that holds
+abbrev pub first_that_holds : List (Bool × Refused) → Result (Unit {0}) Refused
+first_that_holds [] = Ok tt
+first_that_holds (test ∷ tests) = if test.0 then Err test.1 else first_that_holds tests
+
+unfoldable pub accept_of : Option Stamp → Stamp → ℕ → Result (Unit {0}) Refused
+accept_of prev s freq = first_that_holds (tests_of prev s freq)

@@ -1,0 +1,105 @@
+-- What a stamp file says, line by line, and where it is refused first.
+use Rattle.std.specs.Prelude.{ℕ, ◌+◌, List, [], ◌∷◌, Bool, true, ◌&&◌, nat_le, nat_lt, if◌then◌else◌, ◌==◌, Option, None, Some, Result, Ok, Err, codes, length, take, drop}
+use Rattle.std.specs.Str.{bytes_eq}
+use Rattle.stamp_text.specs.Cut.{ended_lines, open_line, file_lines, without_return}
+use Rattle.stamp_text.specs.Digits.{number_in}
+use Rattle.stamp_text.specs.Stamps.{stamp_in}
+use Rattle.stamp_text.specs.declared.lines.Line.{Line}
+use Rattle.stamp_text.specs.declared.lines.Line.TheVariants as gives
+use Rattle.stamp_text.specs.declared.lines.LineFault.{LineFault}
+use Rattle.stamp_text.specs.declared.lines.Stamp.{Stamp}
+use Rattle.stamp_text.specs.declared.lines.Why.{Why}
+use Rattle.stamp_text.specs.declared.lines.Why.TheVariants as why
+
+-- line 1
+abbrev pub version_says : List ℕ → Result (Option Line) Why
+version_says line = if bytes_eq line (codes "radclock-stamps 1") then Ok None else Err why.Head
+
+-- a frequency from 1 MHz to 16 GHz
+abbrev pub freq_within : Option ℕ → Option ℕ
+freq_within None = None
+freq_within (Some n) = if nat_le 1000000 n && nat_le n 16000000000 then Some n else None
+
+abbrev pub freq_in : List ℕ → Option ℕ
+freq_in line = if bytes_eq (take 5 line) (codes "freq ") then freq_within (number_in (drop 5 line)) else None
+
+-- a head is given by line 2, since line 1 is fixed
+abbrev pub head_of : Option ℕ → Result (Option Line) Why
+head_of None = Err why.Freq
+head_of (Some n) = Ok (Some (gives.Head (record { version = 1; freq = n })))
+
+-- line 2
+abbrev pub freq_says : List ℕ → Result (Option Line) Why
+freq_says line = head_of (freq_in line)
+
+-- a line without bytes, or a comment
+abbrev pub is_skipped : List ℕ → Bool
+is_skipped [] = true
+is_skipped (b ∷ bs) = b == 35
+
+abbrev pub stamp_at : ℕ → Result Stamp Why → Result (Option Line) Why
+stamp_at n (Ok stamp) = Ok (Some (gives.Stamp n stamp))
+stamp_at n (Err w) = Err w
+
+-- a line from 3 on
+abbrev pub entry_says : ℕ → List ℕ → Result (Option Line) Why
+entry_says n line = if is_skipped line then Ok None else stamp_at n (stamp_in line)
+
+-- what the line of a number says, by its text
+abbrev pub text_says : ℕ → List ℕ → Result (Option Line) Why
+text_says n line = if n == 1 then version_says line else if n == 2 then freq_says line else entry_says n line
+
+-- what the line of a number says that is not too long
+abbrev pub short_says : ℕ → List ℕ → Result (Option Line) Why
+short_says n line = text_says n (without_return line)
+
+-- what the line of a number says; a carriage return at its end counts in its length
+abbrev pub line_says : ℕ → List ℕ → Result (Option Line) Why
+line_says n line = if nat_lt 255 (length line) then Err why.LongLine else short_says n line
+
+-- the lines that are given, from line n on up to the first that is refused
+abbrev pub given_on : Result (Option Line) Why → List Line → List Line
+given_on (Ok None) more = more
+given_on (Ok (Some x)) more = x ∷ more
+given_on (Err w) more = []
+
+abbrev pub given_from : ℕ → List (List ℕ) → List Line
+given_from n [] = []
+given_from n (line ∷ lines) = given_on (line_says n line) (given_from (n + 1) lines)
+
+-- the first fault of the lines, from line n on
+abbrev pub fault_on : ℕ → Result (Option Line) Why → Option LineFault → Option LineFault
+fault_on n (Ok o) later = later
+fault_on n (Err w) later = Some (record { line = n; why = w })
+
+abbrev pub fault_from : ℕ → List (List ℕ) → Option LineFault
+fault_from n [] = None
+fault_from n (line ∷ lines) = fault_on n (line_says n line) (fault_from (n + 1) lines)
+
+-- a fault of a line that has not ended: it is too long already
+abbrev pub early_fault : ℕ → List ℕ → Option LineFault
+early_fault n line = if nat_lt 255 (length line) then Some (record { line = n; why = why.LongLine }) else None
+
+abbrev pub first_fault : Option LineFault → Option LineFault → Option LineFault
+first_fault None later = later
+first_fault (Some f) later = Some f
+
+-- the first fault of a text that may go on
+unfoldable pub fault_so_far : List ℕ → Option LineFault
+fault_so_far text = first_fault (fault_from 1 (ended_lines text)) (early_fault (length (ended_lines text) + 1) (open_line text))
+
+-- what the lines of a text give that have ended
+unfoldable pub given : List ℕ → List Line
+given text = given_from 1 (ended_lines text)
+
+-- a file that ends before its second line
+abbrev pub missing : ℕ → Option LineFault
+missing n = if n == 0 then Some (record { line = 1; why = why.Head }) else if n == 1 then Some (record { line = 2; why = why.Freq }) else None
+
+-- the first fault of a whole file
+unfoldable pub fault_of_file : List ℕ → Option LineFault
+fault_of_file text = first_fault (fault_from 1 (file_lines text)) (missing (length (file_lines text)))
+
+-- what the lines of a whole file give
+unfoldable pub given_of_file : List ℕ → List Line
+given_of_file text = given_from 1 (file_lines text)

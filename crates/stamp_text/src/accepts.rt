@@ -1,0 +1,84 @@
+// Which stamps are accepted.
+ghost use Rattle.std.specs.Prelude.{◌≡◌, ◌≤◌, ◌<◌, ◌-◌, IfSome, OnOk};
+ghost use Rattle.std.specs.Option.{option_copied};
+ghost use Rattle.stamp_text.specs.Periods.{highest_period};
+ghost use Rattle.stamp_text.specs.Accepted.{IsTimed, accept_of, is_acausal};
+
+use crate::lines::Stamp;
+
+/// Why a stamp is refused: the first of these tests that holds, in this order.
+#[derive(Clone, Copy, Debug, PartialEq, Eq)]
+pub enum Refused {
+    /// The reply came when the request left, or before: `ta >= tf`.
+    Backward,
+    /// The server's times go back: `te < tb`.
+    ServerBackward,
+    /// The request left when the accepted one before it had no reply: `ta <= prev.tf`.
+    Overlap,
+    /// The server's time is before that of the accepted stamp before it: `tb < prev.te`.
+    ServerOld,
+    /// The round trip took more than a second: `tf - ta > freq`.
+    LongTrip,
+    /// The server took longer than the whole round trip, even at the greatest period.
+    Acausal,
+}
+
+#[tactic(auto, unfolding(crate::specs::Periods::highest_period))]
+fn highest_period(freq: u64) -> u64
+    requires { 1000000 ≤ freq }
+    ensures value { result ≡ highest_period freq }
+    ensures bound { result < 35184372088832 }
+{
+    let nominal = (1u64 << 63) / freq * 2;
+    nominal + nominal / 2000
+}
+
+// The server took longer than the round trip.
+fn is_acausal(s: &Stamp, freq: u64) -> bool
+    requires low { 1000000 ≤ freq }
+    requires high { freq ≤ 16000000000 }
+    requires now { IsTimed s.now }
+    requires forward { s.now.ta ≤ s.now.tf }
+    requires trip { s.now.tf - s.now.ta ≤ freq }
+    ensures { result ≡ is_acausal s.now freq }
+{
+    let most = u128::from(s.tf - s.ta) * u128::from(highest_period(freq));
+    s.te.grains() - s.tb.grains() > most as i128
+}
+
+/// Tests a stamp against the accepted one before it, and answers the first test that holds.
+///
+/// `freq` is the counter's nominal frequency in Hz. After the checks that Veitch, Ridoux and Korada
+/// make on a stamp before they use it.
+#[tactic(auto, unfolding(crate::specs::Accepted::accept_of))]
+pub fn accept(prev: Option<&Stamp>, s: &Stamp, freq: u64) -> Result<(), Refused>
+    requires low { 1000000 ≤ freq }
+    requires high { freq ≤ 16000000000 }
+    requires before { IfSome prev (λ p. IsTimed p.now) }
+    requires now { IsTimed s.now }
+    ensures answer { result ≡ accept_of (option_copied prev.entry) s.now freq }
+    ensures forward { OnOk result (s.now.ta < s.now.tf) }
+{
+    if s.ta >= s.tf {
+        return Err(Refused::Backward);
+    }
+    if s.te.grains() < s.tb.grains() {
+        return Err(Refused::ServerBackward);
+    }
+    if let Some(p) = prev {
+        if s.ta <= p.tf {
+            return Err(Refused::Overlap);
+        }
+        if s.tb.grains() < p.te.grains() {
+            return Err(Refused::ServerOld);
+        }
+    }
+    let trip = s.tf - s.ta;
+    if trip > freq {
+        return Err(Refused::LongTrip);
+    }
+    if is_acausal(s, freq) {
+        return Err(Refused::Acausal);
+    }
+    Ok(())
+}

@@ -1,0 +1,213 @@
+// A reader of stamp files that takes one byte at a time.
+ghost use Rattle.std.specs.Prelude.{◌≡◌, ◌≢◌, IfOk, IfErr, IfSome, OnOk, ℕ, ◌^◌, ◌<◌, List, [], ◌∷◌, ◌++◌, length, Some, Err};
+ghost use Rattle.stamp_text.specs.Cut.{without_return};
+ghost use Rattle.stamp_text.specs.Grammar.{short_says, text_says, version_says, freq_says, entry_says};
+ghost use Rattle.stamp_text.specs.Accepted.{IsInRange};
+
+use crate::lines::{Head, Line, LineFault, Why};
+use crate::numbers::number_of;
+use crate::stamps::stamp_of;
+use arrayvec::ArrayVec;
+use std::marker::Model;
+
+/// The most bytes of a line without its line feed.
+const MOST: usize = 255;
+
+/// A reader at some place in a stamp file. It keeps how many lines have ended, the bytes of the
+/// line that has not, and the fault that it found.
+#[derive(Drop)]
+pub struct Feed {
+    ended: u64,
+    line: ArrayVec<u8, MOST>,
+    fault: Option<LineFault>,
+}
+
+impl Model for Feed {
+    ghost use Rattle.stamp_text.specs.Kept.{Kept};
+
+    ghost Value = { Kept };
+
+    ghost view = { λ f. record { ended = f.ended; line = f.line.items; fault = f.fault } };
+}
+
+fn without_return(line: &[u8]) -> &[u8]
+    ensures { result.now ≡ without_return line.now }
+{
+    line.strip_suffix(b"\r").unwrap_or(line)
+}
+
+fn version_said(line: &[u8]) -> Result<Option<Line>, Why>
+    ensures { result ≡ version_says line.now }
+{
+    if line == b"radclock-stamps 1".as_slice() {
+        Ok(None)
+    } else {
+        Err(Why::Head)
+    }
+}
+
+fn freq_said(line: &[u8]) -> Result<Option<Line>, Why>
+    ensures { result ≡ freq_says line.now }
+{
+    let Some(digits) = line.strip_prefix(b"freq ") else {
+        return Err(Why::Freq);
+    };
+    match number_of(digits) {
+        Some(freq) if 1_000_000 <= freq && freq <= 16_000_000_000 => {
+            Ok(Some(Line::Head(Head { version: 1, freq })))
+        }
+        _ => Err(Why::Freq),
+    }
+}
+
+fn entry_said(line: u64, text: &[u8]) -> Result<Option<Line>, Why>
+    ensures { result ≡ entry_says line text.now }
+{
+    if text.is_empty() || text[0] == b'#' {
+        return Ok(None);
+    }
+    match stamp_of(text) {
+        Ok(stamp) => Ok(Some(Line::Stamp { line, stamp })),
+        Err(why) => Err(why),
+    }
+}
+
+fn text_said(line: u64, text: &[u8]) -> Result<Option<Line>, Why>
+    ensures { result ≡ text_says line text.now }
+{
+    match line {
+        1 => version_said(text),
+        2 => freq_said(text),
+        _ => entry_said(line, text),
+    }
+}
+
+// What a line says that is not too long.
+fn line_said(line: u64, bytes: &[u8]) -> Result<Option<Line>, Why>
+    ensures { result ≡ short_says line bytes.now }
+{
+    text_said(line, without_return(bytes))
+}
+
+impl Feed {
+    ghost use Rattle.stamp_text.specs.Kept.{StandsFor, AnswersByte, AnswersEnd, IsFaultOfAll};
+    ghost use Rattle.stamp_text.specs.declared.lines.LineFault.{LineFault};
+    ghost use Rattle.stamp_text.specs.Steps.{step_answer, step_kept, last_answer};
+
+    /// A reader at the start of a file.
+    pub fn new() -> Feed
+        ensures { StandsFor result [] }
+    {
+        Feed {
+            ended: 0,
+            line: ArrayVec::new(),
+            fault: None,
+        }
+    }
+
+    /// Takes the next byte, and answers the line that it ends, if that line carries the head or a
+    /// stamp. A fault of a line is answered at its line feed, or at its 256th byte where it is too
+    /// long, and again at each later byte. It is then the first fault of each file that begins with
+    /// the bytes so far.
+    pub fn byte(&mut self, b: u8) -> Result<Option<Line>, LineFault>
+        ensures answer { (text : List ℕ) → length text < 2 ^ 62 → StandsFor self.old text → AnswersByte text b result }
+        ensures after { (text : List ℕ) → length text < 2 ^ 62 → StandsFor self.old text → StandsFor self.new (text ++ b ∷ []) }
+        ensures refused { IfErr result (λ fault. (text : List ℕ) → length text < 2 ^ 62 → StandsFor self.old text → IsFaultOfAll (text ++ b ∷ []) fault) }
+        ensures ranges { IfOk result (λ line. IfSome line IsInRange) }
+
+        // A fault is kept, and answered again.
+        ensures kept { IfErr result (λ fault. self.new.fault ≡ Some fault) }
+        ensures again { (fault : LineFault) → self.old.fault ≡ Some fault → (result ≡ Err fault) × (self.new ≡ self.old) }
+    {
+        self.step(b)
+    }
+
+    fn step(&mut self, b: u8) -> Result<Option<Line>, LineFault>
+        ensures answer { result ≡ step_answer self.old b }
+        ensures after { self.new ≡ step_kept self.old b (step_answer self.old b) }
+    {
+        let answer = self.answer(b);
+        match answer {
+            Err(fault) => self.fault = Some(fault),
+            Ok(_) => {
+                if b == b'\n' {
+                    self.line.clear();
+                    self.ended = self.ended.saturating_add(1);
+                } else {
+                    self.line.push(b);
+                }
+            }
+        }
+        answer
+    }
+
+    #[tactic(auto, unfolding(crate::specs::Steps::step_answer))]
+    fn answer(&self, b: u8) -> Result<Option<Line>, LineFault>
+        ensures answer { result ≡ step_answer self.now b }
+        ensures room { OnOk result (b ≢ 10 → length self.now.line < 255) }
+    {
+        if let Some(fault) = self.fault {
+            return Err(fault);
+        }
+        let line = self.ended.saturating_add(1);
+        if b == b'\n' {
+            return match line_said(line, self.line.as_slice()) {
+                Ok(given) => Ok(given),
+                Err(why) => Err(LineFault { line, why }),
+            };
+        }
+        if self.line.is_full() {
+            return Err(LineFault {
+                line,
+                why: Why::LongLine,
+            });
+        }
+        Ok(None)
+    }
+
+    /// Ends the file, and answers its last line where that has no line feed and carries the head or
+    /// a stamp. The answer is a fault exactly where the file is not in the grammar.
+    pub fn end(self) -> Result<Option<Line>, LineFault>
+        ensures answer { (text : List ℕ) → length text < 2 ^ 62 → StandsFor self text → AnswersEnd text result }
+        ensures ranges { IfOk result (λ line. IfSome line IsInRange) }
+        ensures again { (fault : LineFault) → self.fault ≡ Some fault → result ≡ Err fault }
+    {
+        self.last()
+    }
+
+    #[tactic(auto, unfolding(crate::specs::Steps::last_answer))]
+    fn last(&self) -> Result<Option<Line>, LineFault>
+        ensures { result ≡ last_answer self.now }
+    {
+        if let Some(fault) = self.fault {
+            return Err(fault);
+        }
+        let line = self.ended.saturating_add(1);
+        if self.line.is_empty() {
+            return match line {
+                1 => Err(LineFault {
+                    line: 1,
+                    why: Why::Head,
+                }),
+                2 => Err(LineFault {
+                    line: 2,
+                    why: Why::Freq,
+                }),
+                _ => Ok(None),
+            };
+        }
+        match line_said(line, self.line.as_slice()) {
+            Ok(given) => {
+                if line == 1 {
+                    Err(LineFault {
+                        line: 2,
+                        why: Why::Freq,
+                    })
+                } else {
+                    Ok(given)
+                }
+            }
+            Err(why) => Err(LineFault { line, why }),
+        }
+    }
+}
