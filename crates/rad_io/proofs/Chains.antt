@@ -1,13 +1,13 @@
 -- One more pull, and one more push.
-use Rattle.std.proofs.Common.{◌≡◌, ℕ, ◌+◌, ◌-◌, ◌^◌, ◌<◌, ◌≤◌, min, List, [], ◌∷◌, ◌++◌, Option, None, Some, Result, Ok, Err, length, take, refl, sym, ap, ◌∙◌, subst, arith, append_assoc, append-nil, length-append}
+use Rattle.std.proofs.Common.{◌≡◌, ℕ, ◌+◌, ◌<◌, List, [], ◌∷◌, ◌++◌, Option, Result, Ok, Err, length, take, refl, sym, ap, ◌∙◌, subst, arith, append-nil, length-append}
 use Rattle.std.proofs.lemmas.List.{take-append-le}
 use Rattle.std.proofs.lemmas.List.Folds.{concat-append}
 use Rattle.std.proofs.Math.Seq.{take-append-add}
 use Rattle.std.proofs.KnownBytes.{Appends-trans, Appends-nil, Consumes-trans, Consumes-nil}
 use Rattle.std.specs.List.{concat}
-use Rattle.std.specs.Io.KnownBytes.{Appends, Consumes, ReadConsumes}
+use Rattle.std.specs.Io.KnownBytes.{Appends, ReadConsumes}
 use Rattle.rad_io.specs.Bytes.{AppendsFront, PushAppends}
-use Rattle.rad_io.specs.Causes.{HasCause, Rose}
+use Rattle.rad_io.specs.Causes.{HasCause}
 use Rattle.rad_io.specs.Pulls.{Pulled, Pulls, no_pull, Took}
 use Rattle.rad_io.specs.Pulls as pulls
 use Rattle.rad_io.specs.Pushes.{Pushes, no_push, Wrote, Broke, Writes}

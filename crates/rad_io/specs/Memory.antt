@@ -1,5 +1,5 @@
 -- What contracts see of the source and the sink in memory, and what a call does to them.
-use Rattle.std.specs.Prelude.{◌≡◌, ℕ, ◌+◌, ◌/◌, ◌<◌, ◌≤◌, ◌⊎◌, ◌↔◌, List, [], ◌++◌, length, take, min, Contains, Result, IsErr, IfOk, OnErr, Some, if◌then◌else◌, nat_lt}
+use Rattle.std.specs.Prelude.{◌≡◌, ℕ, ◌+◌, ◌/◌, ◌<◌, ◌⊎◌, ◌↔◌, List, [], ◌++◌, length, take, min, Contains, Result, IsErr, IfOk, OnErr, Some, if◌then◌else◌, nat_lt}
 use Rattle.std.specs.Io.{ReadsAtMost}
 use Rattle.std.specs.Io.KnownBytes.{ReadConsumes}
 use Rattle.rad_io.specs.Bytes.{PushAppends}

@@ -1,26 +1,22 @@
 -- What follows from how a run ends.
-use Rattle.std.proofs.Common.{◌≡◌, ◌⊎◌, ℕ, ◌+◌, ◌-◌, ◌^◌, ◌<◌, ◌≤◌, min, Bool, true, false, cond, ltb, List, [], ◌∷◌, ◌++◌, Option, None, Some, IsSome, is_some, Result, length, refl, sym, ap, ◌∙◌, subst, arith, append-nil, inl, inr}
+use Rattle.std.proofs.Common.{◌≡◌, ◌⊎◌, ℕ, ◌≤◌, false, List, ◌++◌, Option, None, Some, IsSome, is_some, Result, length, refl, sym, ap, ◌∙◌, arith, append-nil, inl, inr}
 use Rattle.std.specs.List.{concat}
 use Rattle.std.specs.Option.{option_map}
 use Rattle.std.specs.Io.KnownBytes.{Appends, Consumes, IsAtEnd}
 use Rattle.rad_io.specs.Causes.{Rose}
-use Rattle.rad_io.specs.Pushes.{Wrote, Broke}
 use Rattle.rad_io.specs.declared.Failed.{Failed}
 use Rattle.stamp_text.specs.Grammar.{given_of_file, fault_of_file}
-use Rattle.stamp_text.specs.declared.lines.Line.{Line}
 use Rattle.stamp_text.specs.declared.lines.LineFault.{LineFault}
 use Rattle.report_text.specs.declared.lines.Limit.TheVariants as limit
-use Rattle.radclock.specs.Inputs.{stamps_in, stop_by, first_stop, stop_within, stop_so_far, stop_of_file, freq_of_file, stamps_of_file}
-use Rattle.radclock.specs.Readings.{ReachesEnd, BreaksOff, StopsInPiece, StopsAtEnd, Stops}
-use Rattle.radclock.specs.Reports.{report_of}
-use Rattle.radclock.specs.Runs.{Comes, no_line, stopped, read, EndsWith, Ends, WasDone, WasFree}
+use Rattle.radclock.specs.Inputs.{stamps_in, stop_by, first_stop, stop_of_file, stamps_of_file}
+use Rattle.radclock.specs.Readings.{StopsInPiece, StopsAtEnd, Stops}
+use Rattle.radclock.specs.Runs.{Comes, no_line, stopped, read, Ends, WasDone, WasFree}
 use Rattle.radclock.specs.Statuses.{status_of, status_by}
 use Rattle.radclock.specs.Words.{command_in}
 use Rattle.radclock.specs.declared.inputs.Stop.{Stop}
 use Rattle.radclock.specs.declared.inputs.Stop.TheVariants as stop
 use Rattle.radclock.specs.declared.status.Status.{Status}
 use Rattle.radclock.specs.declared.status.Status.TheVariants as status
-use Rattle.radclock.specs.declared.words.Command.{Command}
 use Rattle.radclock.proofs.Stopping.{by_order, many-stop, few-stop, stop_of_file-short, stop_of_file-long, stop_so_far-long, stop_of_file-stays}
 
 -- a count that is free did not rise
@@ -95,12 +91,12 @@ is-sound text none =
     let lines = given_of_file text in
     let fault = fault_of_file text in
     by_order (IsSound text) (length text) 16777216
-      (λ short.
-        let here : stop_by lines fault ≡ None = sym (stop_of_file-short text short) ∙ none in
-        by_order (IsSound text) (length (stamps_in lines)) 65536
-          (λ few. record { sound = no-fault fault (sym (few-stop lines fault few) ∙ here); few_bytes = short; few_stamps = few })
-          (λ many. let found = many-stop lines fault many in absurd (cc)))
-      (λ long. absurd (first-of-some _ (stop.Large limit.Bytes) (sym (stop_so_far-long text long) ∙ sym (stop_of_file-long text long) ∙ none)))
+    (λ short.
+    let here : stop_by lines fault ≡ None = sym (stop_of_file-short text short) ∙ none in
+    by_order (IsSound text) (length (stamps_in lines)) 65536
+    (λ few. record { sound = no-fault fault (sym (few-stop lines fault few) ∙ here); few_bytes = short; few_stamps = few })
+    (λ many. let found = many-stop lines fault many in absurd (cc)))
+    (λ long. absurd (first-of-some _ (stop.Large limit.Bytes) (sym (stop_so_far-long text long) ∙ sym (stop_of_file-long text long) ∙ none)))
 
 -- what a done run read and wrote
 done-of : {S : Type 0} (left : S → Option (List ℕ)) (faults : S → ℕ) (pull : S → List ℕ → Result ℕ Failed → List ℕ → S → Type 0) (words : List (List ℕ)) (old new : S) (written written' : Option (List ℕ)) (due : Status) (lines : List (List ℕ)) → Comes left faults pull words old new due lines → due ≡ status.Done → Appends written written' (concat lines) → WasDone (left old) (left new) written written' words

@@ -1,5 +1,5 @@
 -- What a file keeps of the lines that a text gives.
-use Rattle.std.proofs.Common.{◌≡◌, ℕ, ◌+◌, ◌^◌, ◌<◌, ◌≤◌, List, [], ◌∷◌, ◌++◌, Option, None, Some, length, refl, sym, ap, ◌∙◌, subst, arith, append-nil}
+use Rattle.std.proofs.Common.{◌≡◌, ℕ, ◌≤◌, List, [], ◌∷◌, ◌++◌, None, length, refl, sym, ap, ◌∙◌, subst, arith, append-nil}
 use Rattle.std.specs.List.{All, AllByRecursion}
 use Rattle.std.specs.Option.{option_map}
 use Rattle.std.proofs.lemmas.List.Elements.{All-nil, All-cons}
@@ -13,7 +13,7 @@ use Rattle.radclock.specs.declared.inputs.StampFile.{StampFile}
 use Rattle.radclock.specs.declared.inputs.StampLine.{StampLine}
 use Rattle.radclock.specs.declared.inputs.Stop.{Stop}
 use Rattle.radclock.specs.declared.inputs.Stop.TheVariants as stop
-use Rattle.radclock.specs.Inputs.{stamps_in, freq_after, stop_of_file, freq_of_file, stamps_of_file, IsRanged, IsFileOf}
+use Rattle.radclock.specs.Inputs.{stamps_in, freq_after, freq_of_file, stamps_of_file, IsFileOf}
 use Rattle.radclock.specs.Readings.{Gathers, Keeps, Reads, IsInputStop}
 use Rattle.radclock.proofs.Stopping.{stamps_in-append, few-stop, stop_of_file-short}
 

@@ -1,5 +1,5 @@
 -- While a report is written.
-use Rattle.std.proofs.Common.{◌≡◌, ℕ, ◌+◌, ◌≤◌, ◌<◌, Bool, true, false, cond, List, [], ◌∷◌, ◌++◌, Option, None, Some, Result, Ok, Err, length, drop, refl, sym, ap, ◌∙◌, subst, arith, append_assoc, append-nil, is_ok, is_err, get_or}
+use Rattle.std.proofs.Common.{◌≡◌, ℕ, ◌+◌, ◌≤◌, ◌<◌, Bool, cond, List, [], ◌∷◌, ◌++◌, Option, Result, Ok, Err, length, drop, refl, sym, ap, ◌∙◌, arith, append_assoc, append-nil, is_ok, is_err, get_or}
 use Rattle.std.specs.List.{count_by}
 use Rattle.std.proofs.lemmas.List.{at_drop_more, at_drop_all}
 use Rattle.std.proofs.lemmas.List.Sums.{sum_by-cons}
@@ -11,7 +11,7 @@ use Rattle.stamp_text.specs.declared.lines.Stamp.{Stamp}
 use Rattle.radclock.specs.declared.inputs.StampLine.{StampLine}
 use Rattle.radclock.specs.declared.reports.Tally.{Tally}
 use Rattle.radclock.specs.Reports.{Outcome, last_of, accepted_with, outcome_of, outcomes, told_of, told}
-use Rattle.radclock.specs.Tallies.{StandsAt, Counts}
+use Rattle.radclock.specs.Tallies.{StandsAt}
 
 -- some lines of the whole were written, and with them these stamps were accepted, up to the i-th stamp
 pub record Progress {K T : Type 0} (written : K → Option (List ℕ)) (faults : K → ℕ) (push : K → List ℕ → Result (Unit {0}) Failed → K → Type 0) (stands : T → ℕ → List Stamp → Type 0) (says : List Stamp → Stamp → List ℕ) (freq : ℕ) (head : List ℕ) (stamps : List StampLine) (i : ℕ) (old new : K) (telling : T) (tally : Tally) : Type 0 where

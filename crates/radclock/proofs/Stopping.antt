@@ -1,5 +1,5 @@
 -- What stops an input stops each input that begins with the same bytes.
-use Rattle.std.proofs.Common.{◌≡◌, ℕ, ◌+◌, ◌-◌, ◌<◌, ◌≤◌, Bool, true, false, cond, ltb, List, [], ◌∷◌, ◌++◌, Option, None, Some, length, take, refl, sym, ap, ◌∙◌, subst, arith, length-append}
+use Rattle.std.proofs.Common.{◌≡◌, ℕ, ◌+◌, ◌-◌, ◌<◌, ◌≤◌, Bool, true, false, cond, ltb, List, [], ◌∷◌, ◌++◌, Option, None, Some, length, take, refl, sym, ap, ◌∙◌, arith, length-append}
 use Rattle.std.specs.Option.{option_map}
 use Rattle.std.proofs.lemmas.Bool.Decides.{nat_tests}
 use Rattle.std.proofs.lemmas.List.{take-append-le, take_all}
@@ -118,10 +118,10 @@ stays-long text more long =
 pub stop_so_far-stays : (text more : List ℕ) (s : Stop) → stop_so_far text ≡ Some s → stop_so_far (text ++ more) ≡ Some s
 stop_so_far-stays text more s h =
     by_order (stop_so_far (text ++ more) ≡ Some s) (length text) 16777216
-      (λ short. by_order (stop_so_far (text ++ more) ≡ Some s) (length (text ++ more)) 16777216
-        (λ still. stop_so_far-short (text ++ more) still ∙ stop_within-stays text more s (sym (stop_so_far-short text short) ∙ h))
-        (λ long. stays-short text more s short long h))
-      (λ long. stays-long text more long ∙ h)
+    (λ short. by_order (stop_so_far (text ++ more) ≡ Some s) (length (text ++ more)) 16777216
+    (λ still. stop_so_far-short (text ++ more) still ∙ stop_within-stays text more s (sym (stop_so_far-short text short) ∙ h))
+    (λ long. stays-short text more s short long h))
+    (λ long. stays-long text more long ∙ h)
 
 -- what stops the front of an input stops the input
 pub stop_of_file-stays : (text more : List ℕ) (s : Stop) → stop_so_far text ≡ Some s → stop_of_file (text ++ more) ≡ Some s
@@ -129,8 +129,8 @@ stop_of_file-stays text more s h =
     let all = text ++ more in
     let found = stop_so_far-stays text more s h in
     by_order (stop_of_file all ≡ Some s) (length all) 16777216
-      (λ short. stop_of_file-short all short ∙ stop_by-end all s (sym (stop_so_far-short all short) ∙ found))
-      (λ long. stop_of_file-long all long ∙ found)
+    (λ short. stop_of_file-short all short ∙ stop_by-end all s (sym (stop_so_far-short all short) ∙ found))
+    (λ long. stop_of_file-long all long ∙ found)
 
 -- a byte at which there is a fault stops an input of few stamps
 pub fault-stops : (text : List ℕ) (x : ℕ) (f : LineFault) → length (stamps_in (given text)) ≤ 65536 → fault_so_far (text ++ x ∷ []) ≡ Some f → stop_within (text ++ x ∷ []) ≡ Some (stop.Fault f)

@@ -1,9 +1,9 @@
 -- While the input is read.
-use Rattle.std.proofs.Common.{◌≡◌, ◌⊎◌, ℕ, ◌+◌, ◌-◌, ◌^◌, ◌<◌, ◌≤◌, min, List, [], ◌∷◌, ◌++◌, length, take, drop, Option, None, Some, Result, Ok, Err, refl, sym, ap, ◌∙◌, subst, arith, append_assoc, append-nil, length-append, length-take, inl, inr}
+use Rattle.std.proofs.Common.{◌≡◌, ℕ, ◌+◌, ◌-◌, ◌<◌, ◌≤◌, List, [], ◌++◌, length, take, drop, Option, None, Some, Result, Ok, Err, refl, sym, ap, ◌∙◌, subst, arith, append_assoc, append-nil, length-append, length-take, inl, inr}
 use Rattle.std.specs.Option.{option_map}
-use Rattle.std.specs.Io.KnownBytes.{Consumes, ReadConsumes, IsAtEnd}
+use Rattle.std.specs.Io.KnownBytes.{Consumes, ReadConsumes}
 use Rattle.std.proofs.KnownBytes.{Consumes-trans, Consumes-kept}
-use Rattle.std.proofs.lemmas.List.{take-append-drop, take-append-le}
+use Rattle.std.proofs.lemmas.List.{take-append-drop}
 use Rattle.std.proofs.Math.Seq.{take-append-add}
 use Rattle.rad_io.specs.Causes.{HasCause}
 use Rattle.rad_io.specs.Pulls.{Pulled, Took}
@@ -15,7 +15,7 @@ use Rattle.radclock.specs.declared.inputs.StampFile.{StampFile}
 use Rattle.radclock.specs.declared.inputs.Stop.{Stop}
 use Rattle.radclock.specs.declared.inputs.Stop.TheVariants as stop
 use Rattle.radclock.specs.Inputs.{stop_within, stop_so_far, stop_of_file, first_stop}
-use Rattle.radclock.specs.Readings.{Reads, IsInputStop, ReachesEnd, BreaksOff, StopsInPiece, StopsAtEnd, TookSome, Stops}
+use Rattle.radclock.specs.Readings.{Reads, IsInputStop, ReachesEnd, BreaksOff, Stops}
 use Rattle.radclock.proofs.Stopping.{few-stop, stop_so_far-short, stop_so_far-long, stop_so_far-stays}
 
 -- the text that was taken so far, and what the reader made of it

@@ -15,9 +15,9 @@ mod words;
 use ff_grain::NoMemory;
 use rad_io::{StdSink, StdSource};
 pub use run::run;
+pub use status::Status;
 use std::process::ExitCode;
 use std::{env, io};
-pub use status::Status;
 
 // The words after the program's name. A word that is not text makes a list that is no line.
 fn owned_words<R: std::rt::Env + AllocGlobal>(rt: &R) -> Result<Vec<String>, NoMemory> {

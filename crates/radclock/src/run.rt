@@ -52,12 +52,7 @@ fn refuse<K: Sink>(sink: &mut K, fault: FaultText, due: Status) -> Status
 }
 
 // Reads the words and the input, and then writes.
-fn answer<S: Source, K: Sink>(
-    alloc: Global,
-    words: &[&str],
-    source: &mut S,
-    sink: &mut K,
-) -> Status
+fn answer<S: Source, K: Sink>(alloc: Global, words: &[&str], source: &mut S, sink: &mut K) -> Status
     ensures { Ends S.left S.faults S.pull_gives K.written K.faults K.push_gives (map (λ w. w.now) words.now) source.old source.new sink.old sink.new result }
 {
     let Some(command) = command_of(words) else {

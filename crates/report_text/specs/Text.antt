@@ -1,7 +1,6 @@
 -- The lines of a report, byte by byte.
-use Rattle.std.specs.Prelude.{ℕ, ◌-◌, List, [], ◌∷◌, ◌++◌, Option, None, Some, codes, decimal}
+use Rattle.std.specs.Prelude.{ℕ, ◌-◌, List, [], ◌++◌, Option, None, Some, codes, decimal}
 use Rattle.std.specs.Fmt.{signed_decimal}
-use Rattle.stamp_text.specs.declared.lines.LineFault.{LineFault}
 use Rattle.stamp_text.specs.declared.lines.Why.{Why}
 use Rattle.stamp_text.specs.declared.lines.Why.TheVariants as why
 use Rattle.stamp_text.specs.declared.lines.Stamp.{Stamp}

@@ -1,4 +1,4 @@
-use Rattle.std.proofs.Common.{◌≡◌, ℕ, ◌^◌, ◌<◌, ◌≤◌, List, [], ◌∷◌, ◌++◌, length, ap, ◌∙◌, sym, subst, arith, append-nil}
+use Rattle.std.proofs.Common.{◌∙◌, sym, subst, arith, append-nil}
 use Rattle.stamp_text.specs.Grammar.{given}
 use Rattle.radclock.specs.Readings.{Gathers}
 use Rattle.radclock.proofs.Stopping.{end-stops, last-stops}

@@ -1,11 +1,11 @@
-use Rattle.std.proofs.Common.{◌≡◌, ◌+◌, ◌-◌, ◌^◌, ◌<◌, ◌≤◌, ℕ, min, List, [], ◌∷◌, ◌++◌, length, take, Result, Ok, Err, refl, sym, ap, ◌∙◌, subst, arith, length-append, length-take, inl}
+use Rattle.std.proofs.Common.{◌≡◌, ◌-◌, ◌<◌, ◌≤◌, ℕ, List, [], ◌++◌, length, take, Ok, refl, ap, ◌∙◌, subst, arith, length-append, length-take, inl}
 use Rattle.std.proofs.lemmas.Grind.{common_steps}
 use Rattle.std.proofs.lemmas.Result.{IfOk-weaker, IfErr-weaker}
 use Rattle.rad_io.specs.Pulls.{Pulled}
 use Rattle.rad_io.proofs.Chains.{took_nothing, took_more}
 use Rattle.stamp_text.specs.Grammar.{given, fault_so_far}
 use Rattle.radclock.specs.Readings.{Reads}
-use Rattle.radclock.proofs.Underway.{Underway, reads-sound, piece-stops, bytes-stop, reaches-end, breaks-off, stops-in, stops-end}
+use Rattle.radclock.proofs.Underway.{reads-sound, piece-stops, bytes-stop, reaches-end, breaks-off, stops-in, stops-end}
 use Rattle.radclock.proofs.reading.read_file.Goals as goal
 
 -- the bytes of a piece that are read

@@ -1,6 +1,5 @@
-use Rattle.std.proofs.Common.{◌≡◌, ℕ, ◌^◌, ◌<◌, List, [], ◌∷◌, ◌++◌, length, Result, Ok, Err, OnOk, IfErr, IfOk, ap, ◌∙◌}
+use Rattle.std.proofs.Common.{[], ◌∷◌, ◌++◌}
 use Rattle.std.proofs.lemmas.Result.{on_ok_weaker, IfErr-weaker}
-use Rattle.radclock.specs.Readings.{Reads}
 use Rattle.radclock.proofs.Stopping.{fault-stops, line-stops}
 use Rattle.radclock.proofs.Gathering.{reads-line, IsInputStop-weaker}
 use Rattle.radclock.proofs.reading.take_byte.Goals as goal

@@ -1,4 +1,4 @@
-use Rattle.std.proofs.Common.{◌≡◌, ◌+◌, ◌^◌, ◌<◌, ◌≤◌, ℕ, List, [], ◌∷◌, ◌++◌, length, get_or, take, drop, Some, sym, ap, ◌∙◌, subst, arith, length-append, length-take}
+use Rattle.std.proofs.Common.{◌^◌, ◌<◌, ◌++◌, length, take, subst, arith, length-append, length-take}
 use Rattle.radclock.specs.Readings.{Reads}
 use Rattle.radclock.proofs.Gathering.{IsInputStop-weaker}
 use Rattle.radclock.proofs.Pieces.{one_more_byte, stops-in-piece}
@@ -17,5 +17,5 @@ returns-in-Err-clause-err c =
     let i = c.loop-b.b-index in
     let s = c.in-Err.stop in
     IsInputStop-weaker s _ _ (λ stops text short was.
-      let few : length (text ++ take i piece) < 2 ^ 62 = omega (arith, length-append text (take i piece), length-take i piece) in
-      stops-in-piece text piece i s c.loop-b-test.true (stops (text ++ take i piece) few (c.loop-b.invariant text short was))) c.in-Err.ensures.err
+    let few : length (text ++ take i piece) < 2 ^ 62 = omega (arith, length-append text (take i piece), length-take i piece) in
+    stops-in-piece text piece i s c.loop-b-test.true (stops (text ++ take i piece) few (c.loop-b.invariant text short was))) c.in-Err.ensures.err

@@ -1,4 +1,4 @@
-use Rattle.std.proofs.Common.{◌≡◌, ◌+◌, ◌^◌, ◌<◌, ℕ, List, ◌++◌, length, take}
+use Rattle.std.proofs.Common.{◌+◌, ◌^◌, ◌<◌, ℕ, List, ◌++◌, length, take}
 use Rattle.radclock.specs.Readings.{Reads}
 use Rattle.radclock.proofs.reading.take_piece.Given as goal
 

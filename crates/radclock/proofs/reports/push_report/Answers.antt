@@ -1,4 +1,4 @@
-use Rattle.std.proofs.Common.{◌≡◌, ℕ, ◌+◌, ◌≤◌, List, [], ◌∷◌, ◌++◌, Option, None, Some, Result, Ok, Err, pos, refl, sym, ap, ◌∙◌, subst, arith, append_assoc, zero-add, is_ok, is_err, get_or, drop, length, rules}
+use Rattle.std.proofs.Common.{◌≡◌, ℕ, ◌+◌, ◌≤◌, List, [], ◌∷◌, ◌++◌, None, pos, refl, sym, ap, ◌∙◌, subst, arith, append_assoc, zero-add, is_ok, is_err, get_or, drop, length}
 use Rattle.std.specs.List.{count_by}
 use Rattle.std.proofs.lemmas.Result.{err_from_is_err_and}
 use Rattle.rad_io.specs.Pushes.{Writes, Broke}
@@ -7,8 +7,8 @@ use Rattle.stamp_text.specs.Accepted.{accept_of}
 use Rattle.report_text.specs.Text.{head_text, end_text}
 use Rattle.report_text.specs.declared.lines.EndCounts.{EndCounts}
 use Rattle.radclock.specs.declared.inputs.StampLine.{StampLine}
-use Rattle.radclock.specs.Reports.{Outcome, report, outcomes, told, told_of, last_of, accepted_with}
-use Rattle.radclock.proofs.Progress.{Progress, answer_to, lines-next, count-next, next-whole, counted, one-answer, lines-done, count-done}
+use Rattle.radclock.specs.Reports.{Outcome, report, outcomes, told, told_of, accepted_with}
+use Rattle.radclock.proofs.Progress.{answer_to, lines-next, count-next, next-whole, counted, one-answer, lines-done, count-done}
 use Rattle.radclock.proofs.reports.push_report.Goals as goal
 
 -- the stamp that stands for none

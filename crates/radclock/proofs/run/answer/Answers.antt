@@ -1,4 +1,4 @@
-use Rattle.std.proofs.Common.{◌≡◌, ℕ, List, sym, refl, subst}
+use Rattle.std.proofs.Common.{ℕ, List, sym, refl, subst}
 use Rattle.radclock.specs.Inputs.{freq_of_file, stamps_of_file}
 use Rattle.radclock.specs.Reports.{report_of}
 use Rattle.radclock.specs.Runs as runs

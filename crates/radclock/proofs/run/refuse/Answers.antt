@@ -1,4 +1,4 @@
-use Rattle.std.proofs.Common.{◌≡◌, ◌⊎◌, ℕ, List, [], ◌∷◌, refl, inl, inr}
+use Rattle.std.proofs.Common.{[], refl, inl, inr}
 use Rattle.report_text.specs.Text.{fault_text}
 use Rattle.rad_io.proofs.Chains.{wrote_nothing, wrote_more, broke}
 use Rattle.radclock.proofs.run.refuse.Goals as goal
