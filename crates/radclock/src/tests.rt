@@ -328,7 +328,10 @@ fn bytes_have_a_limit(rt: HostRuntime) -> Result<(), Fail> {
             "#\n",
             "report stamps freq 1000000000\nend accepted 0 refused 0\n",
         ),
-        ("#\nx", "fault large bytes\n"),
+        ("#\n#", "fault large bytes\n"),
+        // A bad line that ends at the limit, and one whose line feed is past it.
+        ("x\n#", "fault input 838862 columns\n"),
+        ("xx\n", "fault large bytes\n"),
     ];
     for (rest, wanted) in rows {
         let input = format!(in rt.alloc(); "{HEAD}{comments}{rest}")?;
