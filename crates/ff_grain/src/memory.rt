@@ -1,7 +1,8 @@
 // Want of memory.
 use std::alloc::{AllocError, AllocFailed};
 
-/// Memory was asked for and not given. It is the one error that no call has another cause for.
+/// Memory was asked for and not given. No clause says when, so it may come of each call that takes
+/// memory.
 #[derive(Clone, Copy, Debug, PartialEq, Eq)]
 pub struct NoMemory;
 

@@ -7,8 +7,8 @@ use Rattle.std.proofs.KnownBytes.{Appends-trans, Appends-kept}
 use Rattle.std.specs.Io.KnownBytes.{Appends, Keeps}
 use Rattle.rad_io.specs.Bytes.{AppendsFront}
 
--- the front of a piece was taken, and this is left of it
-pub record Took (old now : Option (List ℕ)) (piece left : List ℕ) : Type 0 where
+-- the front of a piece was passed to a writer, and this is left of it
+pub record Passed (old now : Option (List ℕ)) (piece left : List ℕ) : Type 0 where
   pub front : List ℕ
   pub cut : piece ≡ front ++ left
   pub bytes : Appends old now front
@@ -17,12 +17,12 @@ pub record Took (old now : Option (List ℕ)) (piece left : List ℕ) : Type 0 w
 pub rest_from : (bs : List ℕ) (at : ℕ) → take (length bs - at) (drop at bs) ≡ drop at bs
 rest_from bs at = grind (arith, common_steps)
 
--- one more write took n bytes
-pub took_more : (old mid new : Option (List ℕ)) (piece left : List ℕ) (n : ℕ) → Took old mid piece left → Appends mid new (take n left) → Took old new piece (take (length left - n) (drop n left))
-took_more old mid new piece left n took more = record {
-  front = took.front ++ take n left;
-  cut = took.cut ∙ ap (λ (bs : List ℕ). took.front ++ bs) (sym (take-append-drop n left)) ∙ sym (append_assoc took.front (take n left) (drop n left)) ∙ ap (λ (bs : List ℕ). (took.front ++ take n left) ++ bs) (sym (rest_from left n));
-  bytes = Appends-trans old mid new took.front (take n left) took.bytes more;
+-- one more write passed n bytes
+pub passed_more : (old mid new : Option (List ℕ)) (piece left : List ℕ) (n : ℕ) → Passed old mid piece left → Appends mid new (take n left) → Passed old new piece (take (length left - n) (drop n left))
+passed_more old mid new piece left n passed more = record {
+  front = passed.front ++ take n left;
+  cut = passed.cut ∙ ap (λ (bs : List ℕ). passed.front ++ bs) (sym (take-append-drop n left)) ∙ sym (append_assoc passed.front (take n left) (drop n left)) ∙ ap (λ (bs : List ℕ). (passed.front ++ take n left) ++ bs) (sym (rest_from left n));
+  bytes = Appends-trans old mid new passed.front (take n left) passed.bytes more;
 }
 
 -- a write that takes nothing keeps what is written
@@ -35,7 +35,7 @@ pub nothing_taken : (mid new : Option (List ℕ)) (left : List ℕ) (n : ℕ) �
 nothing_taken mid new left n none h = kept_none mid new (let P : ℕ → Type 0 = λ n. Appends mid new (take n left) in subst P none h)
 
 -- a write that fails leaves the front
-pub took_front : (old mid new : Option (List ℕ)) (piece left : List ℕ) → Took old mid piece left → Keeps mid new → AppendsFront old new piece
-took_front old mid new piece left took kept =
-    let whole : take (length took.front) piece ≡ took.front = ap (take (length took.front)) took.cut ∙ take-append_seam took.front left in
-    (length took.front, omega (arith, ap length took.cut, length-append took.front left), subst (Appends old new) (sym whole) (Appends-kept old mid new took.front took.bytes kept))
+pub passed_front : (old mid new : Option (List ℕ)) (piece left : List ℕ) → Passed old mid piece left → Keeps mid new → AppendsFront old new piece
+passed_front old mid new piece left passed kept =
+    let whole : take (length passed.front) piece ≡ passed.front = ap (take (length passed.front)) passed.cut ∙ take-append_seam passed.front left in
+    (length passed.front, omega (arith, ap length passed.cut, length-append passed.front left), subst (Appends old new) (sym whole) (Appends-kept old mid new passed.front passed.bytes kept))

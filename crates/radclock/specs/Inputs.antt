@@ -13,6 +13,13 @@ use Rattle.radclock.specs.declared.inputs.StampLine.{StampLine}
 use Rattle.radclock.specs.declared.inputs.Stop.{Stop}
 use Rattle.radclock.specs.declared.inputs.Stop.TheVariants as stop
 
+-- the most bytes of an input, and the most well-formed stamp lines
+abbrev pub most_bytes : ℕ
+most_bytes = 16777216
+
+abbrev pub most_stamps : ℕ
+most_stamps = 65536
+
 -- the stamps among lines, each with the number of its line
 abbrev pub stamps_in : List Line → List StampLine
 stamps_in [] = []
@@ -32,7 +39,7 @@ first_stop (Some s) later = Some s
 -- what stops the reading of lines and their fault. Lines are given up to the first fault, so a
 -- limit that they pass stands before it.
 abbrev pub stop_by : List Line → Option LineFault → Option Stop
-stop_by lines fault = if nat_lt 65536 (length (stamps_in lines)) then Some (stop.Large limit.Stamps) else option_map stop.Fault fault
+stop_by lines fault = if nat_lt most_stamps (length (stamps_in lines)) then Some (stop.Large limit.Stamps) else option_map stop.Fault fault
 
 -- the same of bytes that may go on, as many as are read
 unfoldable pub stop_within : List ℕ → Option Stop
@@ -40,15 +47,15 @@ stop_within text = stop_by (given text) (fault_so_far text)
 
 -- more bytes than are read
 abbrev pub bytes_stop : List ℕ → Option Stop
-bytes_stop text = if nat_lt 16777216 (length text) then Some (stop.Large limit.Bytes) else None
+bytes_stop text = if nat_lt most_bytes (length text) then Some (stop.Large limit.Bytes) else None
 
 -- the first stop, in the order of the bytes, of an input that may go on
 unfoldable pub stop_so_far : List ℕ → Option Stop
-stop_so_far text = first_stop (stop_within (take 16777216 text)) (bytes_stop text)
+stop_so_far text = first_stop (stop_within (take most_bytes text)) (bytes_stop text)
 
 -- the first stop, in the order of the bytes, of a whole input
 unfoldable pub stop_of_file : List ℕ → Option Stop
-stop_of_file text = if nat_lt 16777216 (length text) then stop_so_far text else stop_by (given_of_file text) (fault_of_file text)
+stop_of_file text = if nat_lt most_bytes (length text) then stop_so_far text else stop_by (given_of_file text) (fault_of_file text)
 
 -- the frequency and the stamps of a whole input
 unfoldable pub freq_of_file : List ℕ → ℕ

@@ -10,7 +10,7 @@ use Rattle.stamp_text.specs.Grammar.{given, fault_so_far}
 use Rattle.stamp_text.specs.Kept.{Kept, StandsFor}
 use Rattle.stamp_text.specs.declared.lines.Line.{Line}
 use Rattle.report_text.specs.declared.lines.Limit.TheVariants as limit
-use Rattle.radclock.specs.Inputs.{stamps_in, freq_after, stop_so_far, stop_of_file}
+use Rattle.radclock.specs.Inputs.{most_stamps, stamps_in, freq_after, stop_so_far, stop_of_file}
 use Rattle.radclock.specs.declared.inputs.StampFile.{StampFile}
 use Rattle.radclock.specs.declared.inputs.Stop.{Stop}
 use Rattle.radclock.specs.declared.inputs.Stop.TheVariants as stop
@@ -19,19 +19,19 @@ use Rattle.radclock.specs.declared.inputs.Stop.TheVariants as stop
 pub record Gathers (file : StampFile) (lines : List Line) : Type 0 where
   pub freq : file.freq ≡ freq_after 0 lines
   pub stamps : file.stamps.items ≡ stamps_in lines
-  pub few : length (stamps_in lines) ≤ 65536
+  pub few : length (stamps_in lines) ≤ most_stamps
   pub ranged : AllByRecursion IsInRange lines
 
 -- a file gained what a line gives
 pub record Keeps (old new : StampFile) (line : Line) : Type 0 where
   pub freq : new.freq ≡ freq_after old.freq (line ∷ [])
   pub stamps : new.stamps.items ≡ old.stamps.items ++ stamps_in (line ∷ [])
-  pub few : length old.stamps.items ≤ 65536 → length new.stamps.items ≤ 65536
+  pub few : length old.stamps.items ≤ most_stamps → length new.stamps.items ≤ most_stamps
 
 -- a file has as many stamps as it may
 pub record IsFull (s : Stop) (file : StampFile) (line : Line) : Type 0 where
   pub limit : s ≡ stop.Large limit.Stamps
-  pub full : 65536 < length (file.stamps.items ++ stamps_in (line ∷ []))
+  pub full : most_stamps < length (file.stamps.items ++ stamps_in (line ∷ []))
 
 -- a reader and a file stand for a text without a fault
 pub record Reads (k : Kept) (file : StampFile) (text : List ℕ) : Type 0 where
@@ -90,7 +90,8 @@ pub record TookSome {S : Type 0} (left : S → Option (List ℕ)) (faults : S �
   pub bytes : Consumes (left old) (left new) text
   pub same : faults new ≡ faults old
 
--- the reading of an input stopped for this; nothing was pulled after it
+-- the reading of an input stopped for this. Want of memory aside, no pull came after that in which it
+-- was found.
 abbrev pub Stops : {S : Type 0} (left : S → Option (List ℕ)) (faults : S → ℕ) (pull : S → List ℕ → Result ℕ Failed → List ℕ → S → Type 0) → S → Stop → S → Type 0
 Stops left faults pull old stop.Memory new = TookSome left faults old new
 Stops left faults pull old (stop.Read taken) new = (text : List ℕ) × BreaksOff left faults pull old text new × (length text ≡ taken)

@@ -7,7 +7,7 @@ use Rattle.rad_io.specs.declared.Failed.{Failed}
 use Rattle.stamp_text.specs.Grammar.{fault_of_file}
 use Rattle.report_text.specs.Text.{fault_text}
 use Rattle.report_text.specs.declared.lines.FaultText.TheVariants as fault
-use Rattle.radclock.specs.Inputs.{stop_of_file, freq_of_file, stamps_of_file}
+use Rattle.radclock.specs.Inputs.{most_bytes, most_stamps, stop_of_file, freq_of_file, stamps_of_file}
 use Rattle.radclock.specs.Readings.{ReachesEnd, Stops}
 use Rattle.radclock.specs.Reports.{report_of}
 use Rattle.radclock.specs.Statuses.{status_of, fault_of}
@@ -44,8 +44,8 @@ pub record WasDone (left left' written written' : Option (List ℕ)) (words : Li
   pub bytes : Consumes left left' text
   pub ended : IsAtEnd left'
   pub sound : fault_of_file text ≡ None
-  pub few_bytes : length text ≤ 16777216
-  pub few_stamps : length (stamps_of_file text) ≤ 65536
+  pub few_bytes : length text ≤ most_bytes
+  pub few_stamps : length (stamps_of_file text) ≤ most_stamps
   pub wrote : Appends written written' (concat (report_of command (freq_of_file text) (stamps_of_file text)))
 
 -- the count of faults did not rise, and does not stand at its last value

@@ -1,7 +1,7 @@
 // The whole input, in pieces.
 ghost use Rattle.std.specs.Prelude.{◌≡◌, ◌⊎◌, ◌+◌, ◌^◌, ◌<◌, ◌≤◌, ℕ, List, [], ◌∷◌, ◌++◌, length, IfOk, IfErr, OnOk, Some};
 ghost use Rattle.stamp_text.specs.Accepted.{IsInRange};
-ghost use Rattle.radclock.specs.Inputs.{stop_within, stop_of_file, IsFileOf};
+ghost use Rattle.radclock.specs.Inputs.{most_bytes, stop_within, stop_of_file, IsFileOf};
 ghost use Rattle.radclock.specs.Readings.{Reads, Keeps, IsFull, IsInputStop, ReachesEnd, Stops};
 
 use crate::inputs::{MOST_BYTES, MOST_STAMPS, StampFile, StampLine, Stop};
@@ -61,8 +61,8 @@ fn take_piece(feed: &mut Feed, file: &mut StampFile, piece: &[u8]) -> Result<(),
 
 // Ends the input, and keeps its last line.
 fn end_file(feed: Feed, mut file: StampFile) -> Result<StampFile, Stop>
-    ensures ok { IfOk result (λ whole. (text : List ℕ) → length text ≤ 16777216 → Reads feed file text → IsFileOf whole text) }
-    ensures err { IfErr result (λ stop. IsInputStop stop ((text : List ℕ) → length text ≤ 16777216 → Reads feed file text → stop_of_file text ≡ Some stop)) }
+    ensures ok { IfOk result (λ whole. (text : List ℕ) → length text ≤ most_bytes → Reads feed file text → IsFileOf whole text) }
+    ensures err { IfErr result (λ stop. IsInputStop stop ((text : List ℕ) → length text ≤ most_bytes → Reads feed file text → stop_of_file text ≡ Some stop)) }
 {
     match feed.end() {
         Ok(None) => Ok(file),

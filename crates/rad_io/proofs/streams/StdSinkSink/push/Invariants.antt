@@ -1,11 +1,11 @@
 use Rattle.std.proofs.Common.{◌≡◌, length}
-use Rattle.rad_io.proofs.Written.{Took}
+use Rattle.rad_io.proofs.Written.{Passed}
 use Rattle.rad_io.proofs.streams.StdSinkSink.push.Given as goal
 
 abbrev pub invariant-loop-rest : goal.invariant-loop-rest
 invariant-loop-rest g l = record {
   same : l.self.faults ≡ l.initial.self.faults;
-  took : Took (g.W.Write.contents l.initial.self.writer) (g.W.Write.contents l.self.writer) l.piece l.rest;
+  passed : Passed (g.W.Write.contents l.initial.self.writer) (g.W.Write.contents l.self.writer) l.piece l.rest;
 }
 
 abbrev pub decreases-loop-rest : goal.decreases-loop-rest
