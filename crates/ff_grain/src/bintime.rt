@@ -1,7 +1,7 @@
 // Seconds, and grains below one second.
 ghost use Rattle.std.specs.Prelude.{◌≡◌, ◌*◌, ◌^◌, ◌<◌, pos, ◌+ℤ◌, ◌-ℤ◌, FitsSigned};
 ghost use Rattle.std.specs.Int.{w128};
-ghost use Rattle.ff_grain.specs.Grains.{number_of, of_nanos};
+ghost use Rattle.ff_grain.specs.Grains.{number_of, of_grains, of_nanos, nanos_floor, nanos_ceil};
 
 /// A time, or a distance of two times: whole seconds, and `frac` grains of 2^-64 s above them.
 ///
@@ -29,7 +29,8 @@ impl Bintime {
 
     /// The time of so many grains, of which there is one.
     pub fn of_grains(g: i128) -> Bintime
-        ensures { number_of result ≡ g }
+        ensures value { result ≡ of_grains g }
+        ensures number { number_of result ≡ g }
     {
         Bintime {
             sec: g.div_euclid(SECOND) as i64,
@@ -51,6 +52,24 @@ impl Bintime {
         ensures { number_of result ≡ number_of self -ℤ number_of o }
     {
         Bintime::of_grains(self.grains() - o.grains())
+    }
+
+    /// The nanoseconds, rounded down to a whole one: the last whole nanosecond that is not after
+    /// this time.
+    pub fn nanos_floor(self) -> i128
+        ensures { result ≡ nanos_floor self }
+    {
+        let part = (u128::from(self.frac) * NANOS) >> 64;
+        i128::from(self.sec) * NANOS as i128 + part as i128
+    }
+
+    /// The nanoseconds, rounded up to a whole one: the first whole nanosecond that is not before
+    /// this time.
+    pub fn nanos_ceil(self) -> i128
+        ensures { result ≡ nanos_ceil self }
+    {
+        let part = (u128::from(self.frac) * NANOS).div_ceil(SECOND as u128);
+        i128::from(self.sec) * NANOS as i128 + part as i128
     }
 }
 
@@ -100,5 +119,20 @@ mod tests {
             frac: 18_446_744_073_709_551_615,
         };
         assert_eq!(rt; Bintime::of_grains(-1), below);
+    }
+
+    #[test]
+    fn nanoseconds_are_rounded_both_ways(rt: HostRuntime) {
+        for (grains, floor, ceil) in [
+            (from_nanos(0, 1).grains(), 0, 1),
+            (-1, -1, 0),
+            (-18_446_744_074, -2, -1),
+            (-SECOND, -1_000_000_000, -1_000_000_000),
+            (1 << 55, 1_953_125, 1_953_125),
+        ] {
+            let time = Bintime::of_grains(grains);
+            assert_eq!(rt; time.nanos_floor(), floor, "at {grains}");
+            assert_eq!(rt; time.nanos_ceil(), ceil, "at {grains}");
+        }
     }
 }

@@ -3,6 +3,8 @@
 
 mod bintime;
 mod memory;
+mod scale;
 
 pub use bintime::{Bintime, convert_delta, from_nanos};
 pub use memory::NoMemory;
+pub use scale::{scale_ceil, trip_scale};
