@@ -7,3 +7,5 @@ pub mod FeedLaws
 pub mod EndLaws
 pub mod RangeLaws
 pub mod GivenLaws
+pub mod AcceptedLaws
+pub mod PeriodLaws

@@ -1,5 +1,6 @@
 -- Which stamps are accepted.
-use Rattle.std.specs.Prelude.{ℕ, pos, ◌-◌, ◌*◌, ◌<◌, ◌≤◌, ◌≤ℤ◌, ◌<ℤ◌, ◌-ℤ◌, int_lt, Bool, false, nat_le, nat_lt, if◌then◌else◌, List, [], ◌∷◌, Option, None, Some, Result, Ok, Err}
+use Rattle.std.specs.Prelude.{ℕ, pos, ◌-◌, ◌*◌, ◌<◌, ◌≤◌, ◌≤ℤ◌, ◌<ℤ◌, ◌-ℤ◌, int_lt, Bool, false, nat_le, nat_lt, if◌then◌else◌, List, [], ◌∷◌, ◌++◌, length, slice_get, Option, None, Some, Result, Ok, Err}
+use Rattle.std.specs.List.{All, AllPairs}
 use Rattle.ff_grain.specs.Grains.{number_of}
 use Rattle.ff_grain.specs.declared.bintime.Bintime.{Bintime}
 use Rattle.stamp_text.specs.Periods.{highest_period}
@@ -21,6 +22,10 @@ pub record IsTimed (s : Stamp) : Type 0 where
   pub tb : IsTime s.tb
   pub te : IsTime s.te
 
+-- the round trip, in counts
+abbrev pub trip : Stamp → ℕ
+trip s = s.tf - s.ta
+
 -- what a line gives is a head or a stamp in its ranges
 abbrev pub IsInRange : Line → Type 0
 IsInRange (gives.Head h) = (1000000 ≤ h.freq) × (h.freq ≤ 16000000000)
@@ -38,7 +43,7 @@ is_old (Some p) s = int_lt (number_of s.tb) (number_of p.te)
 
 -- the server took longer than the round trip did, at the greatest period
 abbrev pub is_acausal : Stamp → ℕ → Bool
-is_acausal s freq = int_lt (pos ((s.tf - s.ta) * highest_period freq)) (number_of s.te -ℤ number_of s.tb)
+is_acausal s freq = int_lt (pos (trip s * highest_period freq)) (number_of s.te -ℤ number_of s.tb)
 
 -- the tests of a stamp behind an accepted one, in their order, each with its refusal
 abbrev pub tests_of : Option Stamp → Stamp → ℕ → List (Bool × Refused)
@@ -47,7 +52,7 @@ tests_of prev s freq =
     ∷ (int_lt (number_of s.te) (number_of s.tb), refused.ServerBackward)
     ∷ (overlaps prev s, refused.Overlap)
     ∷ (is_old prev s, refused.ServerOld)
-    ∷ (nat_lt freq (s.tf - s.ta), refused.LongTrip)
+    ∷ (nat_lt freq (trip s), refused.LongTrip)
     ∷ (is_acausal s freq, refused.Acausal)
     ∷ []
 
@@ -58,3 +63,31 @@ first_that_holds (test ∷ tests) = if test.0 then Err test.1 else first_that_ho
 
 unfoldable pub accept_of : Option Stamp → Stamp → ℕ → Result (Unit {0}) Refused
 accept_of prev s freq = first_that_holds (tests_of prev s freq)
+
+-- what an accepted stamp has by itself: its counters and the server's times go on, and its round
+-- trip takes at most a second
+pub record IsSound (freq : ℕ) (s : Stamp) : Type 0 where
+  pub counters : s.ta < s.tf
+  pub times : number_of s.tb ≤ℤ number_of s.te
+  pub short : trip s ≤ freq
+
+-- what an accepted stamp has behind the accepted one before it: its request left when the reply
+-- was there, and the server's times go on
+pub record Follows (p s : Stamp) : Type 0 where
+  pub counters : p.tf < s.ta
+  pub times : number_of p.te ≤ℤ number_of s.tb
+
+-- the newest of stamps, if there is one
+abbrev pub last_of : List Stamp → Option Stamp
+last_of all = slice_get all (length all - 1)
+
+-- the accepted stamps behind these and one more
+abbrev pub accepted_with : List Stamp → Stamp → Result (Unit {0}) Refused → List Stamp
+accepted_with accepted s (Ok o) = accepted ++ s ∷ []
+accepted_with accepted s (Err why) = accepted
+
+-- what stamps have each of which was accepted behind the one before it
+pub record AreAccepted (freq : ℕ) (all : List Stamp) : Type 0 where
+  pub timed : All IsTimed all
+  pub sound : All (IsSound freq) all
+  pub follow : AllPairs Follows all

@@ -1,10 +1,10 @@
 // Which stamps are accepted.
 ghost use Rattle.std.specs.Prelude.{◌≡◌, ◌≤◌, ◌<◌, ◌-◌, IfSome, OnOk};
 ghost use Rattle.std.specs.Option.{option_copied};
-ghost use Rattle.stamp_text.specs.Periods.{highest_period};
 ghost use Rattle.stamp_text.specs.Accepted.{IsTimed, accept_of, is_acausal};
 
 use crate::lines::Stamp;
+use crate::periods::highest_period;
 
 /// Why a stamp is refused: the first of these tests that holds, in this order.
 #[derive(Clone, Copy, Debug, PartialEq, Eq)]
@@ -21,16 +21,6 @@ pub enum Refused {
     LongTrip,
     /// The server took longer than the whole round trip, even at the greatest period.
     Acausal,
-}
-
-#[tactic(auto, unfolding(crate::specs::Periods::highest_period))]
-fn highest_period(freq: u64) -> u64
-    requires { 1000000 ≤ freq }
-    ensures value { result ≡ highest_period freq }
-    ensures bound { result < 35184372088832 }
-{
-    let nominal = (1u64 << 63) / freq * 2;
-    nominal + nominal / 2000
 }
 
 // The server took longer than the round trip.

@@ -7,6 +7,7 @@ mod cuts;
 mod feed;
 mod lines;
 mod numbers;
+mod periods;
 mod stamps;
 #[cfg(test)]
 mod tests;
@@ -14,3 +15,5 @@ mod tests;
 pub use accepts::{Refused, accept};
 pub use feed::Feed;
 pub use lines::{Head, Line, LineFault, Stamp, Why};
+pub use numbers::number_of;
+pub use periods::{highest_period, lowest_period, nominal_period};

@@ -40,7 +40,8 @@ fn has_digits_alone(text: &[u8]) -> bool
     true
 }
 
-/// The number that a text is, or the greatest one where that is more.
+/// The number that a text is: `0`, or a digit from 1 to 9 followed by digits. A number from 2^64 on is
+/// answered as 2^64 - 1, and a text that is no number as `None`.
 pub fn number_of(text: &[u8]) -> Option<u64>
     ensures { result ≡ option_map (λ n. min n (2 ^ 64 - 1)) (number_in text.now) }
 {
