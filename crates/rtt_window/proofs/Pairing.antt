@@ -1,0 +1,95 @@
+-- The pair of stamps among the last ones.
+use Rattle.std.proofs.Common.{◌≡◌, ℕ, ◌+◌, ◌-◌, ◌<◌, ◌≤◌, nat_lt, true, false, Bool, cond, List, length, min, take, drop, slice_range, get_or, Option, Some, None, refl, sym, ap, ap₂, ◌∙◌, subst, arith, length-take, length-drop}
+use Rattle.std.specs.Option.{option_zip}
+use Rattle.std.proofs.lemmas.Bool.Decides.{nat_tests}
+use Rattle.std.proofs.lemmas.List.{drop-drop, take_rest, get_or-take, get_or-drop}
+use Rattle.std.proofs.lemmas.Option.{slice_get_within, get_or_from_slice_get, some_pair_parts}
+use Rattle.circular_buffer.specs.Buffer.{keep_last}
+use Rattle.stamp_text.specs.Accepted.{IsTimed, IsSound, Follows, AreAccepted}
+use Rattle.stamp_text.specs.declared.lines.Stamp.{Stamp}
+use Rattle.stamp_text.proofs.AcceptedLaws.{accepted-drop}
+use Rattle.rtt_window.specs.Pairs.{first_least, quarter, pair_among, pair_of, ArePair}
+use Rattle.rtt_window.proofs.FirstLeasts.{first_least-is}
+
+-- the last ones of the last ones are the last ones
+keep_last-less : (m n : ℕ) (xs : List Stamp) → m ≤ n → keep_last m (keep_last n xs) ≡ keep_last m xs
+keep_last-less m n xs less =
+    let d : ℕ = length xs - n in
+    drop-drop (length (drop d xs) - m) d xs ∙ ap (λ n. drop n xs) (omega (arith, length-drop d xs))
+
+-- so what is kept has the pair of all
+pub pair_of-kept : (reach : ℕ) (all : List Stamp) → reach ≤ 1024 → pair_of reach (keep_last 1024 all) ≡ pair_of reach all
+pair_of-kept reach all less = ap pair_among (keep_last-less reach 1024 all less)
+
+-- of fewer than two there is none
+pub pair_of-none : (reach : ℕ) (xs : List Stamp) → length xs < 2 → pair_of reach xs ≡ None
+unfolding pair_among
+pair_of-none reach xs few = grind (arith, nat_tests, length-drop (length xs - reach) xs)
+
+-- of two or more it is the first least of either quarter
+among-some : (near : List Stamp) (j k : Stamp) → 2 ≤ length near → first_least (take (quarter (length near)) near) ≡ Some j → first_least (keep_last (quarter (length near)) near) ≡ Some k → pair_among near ≡ Some (j, k)
+unfolding pair_among
+among-some near j k many j_is k_is = grind (arith, nat_tests)
+
+-- the same, by the places of the quarters among all
+pub pair_of-some : (reach end near q : ℕ) (xs : List Stamp) (j k : Stamp) → end ≡ length xs → 2 ≤ end → 2 ≤ reach → near ≡ min end reach → q ≡ quarter near → first_least (slice_range xs (end - near) (end - near + q)) ≡ Some j → first_least (slice_range xs (end - q) end) ≡ Some k → pair_of reach xs ≡ Some (j, k)
+pair_of-some reach end near q xs j k is_end many two is_near is_q from to =
+    let d : ℕ = length xs - reach in
+    let n : ℕ = length (drop d xs) in
+    let here : n ≡ near = omega (arith, length-drop d xs) in
+    let left : take (quarter n) (drop d xs) ≡ slice_range xs (end - near) (end - near + q) = ap₂ (λ q i. take q (drop i xs)) (omega arith) (omega arith) in
+    let right : keep_last (quarter n) (drop d xs) ≡ slice_range xs (end - q) end =
+    drop-drop (n - quarter n) d xs ∙ ap (λ i. drop i xs) (omega arith) ∙ sym (take_rest xs (end - q)) ∙ ap (slice_range xs (end - q)) (sym is_end) in
+    among-some (drop d xs) j k (omega arith) (ap first_least left ∙ from) (ap first_least right ∙ to)
+
+zip-some : (x y : Option Stamp) (j k : Stamp) → option_zip x y ≡ Some (j, k) → (x ≡ Some j) × (y ≡ Some k)
+zip-some None y j k e = absurd (cc)
+zip-some (Some a) None j k e = absurd (cc)
+zip-some (Some a) (Some b) j k e =
+    let same = some_pair_parts a j b k e in
+    (ap (λ s. Some s) same.0, ap (λ s. Some s) same.1)
+
+past-test : (b : Bool) (o : Option (Stamp × Stamp)) (p : Stamp × Stamp) → cond b None o ≡ Some p → (b ≡ false) × (o ≡ Some p)
+past-test true o p e = absurd (cc)
+past-test false o p e = (refl, e)
+
+-- where there is a pair, there are two or more, and it is the first least of either quarter
+record Parts (near : List Stamp) (j k : Stamp) : Type 0 where
+  many : 2 ≤ length near
+  j_is : first_least (take (quarter (length near)) near) ≡ Some j
+  k_is : first_least (keep_last (quarter (length near)) near) ≡ Some k
+
+among-parts : (near : List Stamp) (j k : Stamp) → pair_among near ≡ Some (j, k) → Parts near j k
+unfolding pair_among
+among-parts near j k e =
+    let n : ℕ = length near in
+    let two = past-test (nat_lt n 2) (option_zip (first_least (take (quarter n) near)) (first_least (keep_last (quarter n) near))) (j, k) e in
+    let both = zip-some (first_least (take (quarter n) near)) (first_least (keep_last (quarter n) near)) j k two.1 in
+    record { many = grind (arith, nat_tests, two.0); j_is = both.0; k_is = both.1 }
+
+-- a pair among accepted stamps is two accepted stamps
+among-accepted : (freq : ℕ) (near : List Stamp) (j k : Stamp) → AreAccepted freq near → pair_among near ≡ Some (j, k) → ArePair freq j k
+among-accepted freq near j k are e =
+    let n : ℕ = length near in
+    let q : ℕ = quarter n in
+    let found = among-parts near j k e in
+    let at_j = first_least-is (take q near) j found.j_is in
+    let at_k = first_least-is (keep_last q near) k found.k_is in
+    let in_j = slice_get_within (take q near) at_j.place j at_j.there in
+    let in_k = slice_get_within (keep_last q near) at_k.place k at_k.there in
+    let b : ℕ = n - q + at_k.place in
+    let a_within : at_j.place < b = omega (arith, length-take q near, found.many) in
+    let b_within : b < n = omega (arith, length-drop (n - q) near) in
+    let is_j : get_or near at_j.place j ≡ j = sym (get_or-take q near at_j.place j (omega (arith, length-take q near))) ∙ get_or_from_slice_get (take q near) at_j.place j j at_j.there in
+    let is_k : get_or near b j ≡ k = sym (get_or-drop (n - q) near at_k.place j) ∙ get_or_from_slice_get (keep_last q near) at_k.place k j at_k.there in
+    record {
+      timed_j = subst IsTimed is_j (are.timed at_j.place j (omega arith));
+      timed_k = subst IsTimed is_k (are.timed b j b_within);
+      sound_j = subst (IsSound freq) is_j (are.sound at_j.place j (omega arith));
+      sound_k = subst (IsSound freq) is_k (are.sound b j b_within);
+      follow = subst (λ k. Follows j k) is_k (subst (λ j'. Follows j' (get_or near b j)) is_j (are.follow at_j.place b j a_within b_within));
+    }
+
+-- the same of all
+pub pair_of-accepted : (freq reach : ℕ) (all : List Stamp) (j k : Stamp) → AreAccepted freq all → pair_of reach all ≡ Some (j, k) → ArePair freq j k
+pair_of-accepted freq reach all j k are e = among-accepted freq (keep_last reach all) j k (accepted-drop freq (length all - reach) all are) e

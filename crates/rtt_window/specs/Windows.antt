@@ -1,0 +1,48 @@
+-- What a window keeps, and which stamps that stands for.
+use Rattle.std.specs.Prelude.{◌≡◌, ℕ, ◌+◌, ◌-◌, ◌≤◌, min, max, List, [], ◌∷◌, ◌++◌, length, map, drop, IfSome}
+use Rattle.circular_buffer.specs.Buffer.{Buffer, keep_last}
+use Rattle.stamp_text.specs.Accepted.{AreAccepted, last_of, trip}
+use Rattle.stamp_text.specs.declared.lines.Stamp.{Stamp}
+use Rattle.rtt_window.specs.Bases.{least_of, judged, start_before}
+use Rattle.rtt_window.specs.declared.bases.Base.{Base}
+
+-- the last stamps, how many were added, where the level began, and the nominal frequency
+pub record Kept : Type 0 where
+  pub stamps : List Stamp
+  pub count : ℕ
+  pub start : ℕ
+  pub freq : ℕ
+
+-- a window that keeps this may have been given these stamps, at this frequency
+pub record StandsFor (k : Kept) (freq : ℕ) (all : List Stamp) : Type 0 where
+  pub at : k.freq ≡ freq
+  pub stamps : k.stamps ≡ keep_last 1024 all
+  pub count : k.count ≡ length all
+  pub start : k.start ≡ start_before freq all (length all)
+
+-- with one more stamp, before it is judged
+abbrev pub kept_with : Kept → Stamp → Kept
+kept_with k s = record { stamps = keep_last 1024 (k.stamps ++ s ∷ []); count = k.count + 1; start = k.start; freq = k.freq }
+
+-- the least round trip of the kept stamps from the one with this index among all on
+abbrev pub least_kept : Kept → ℕ → ℕ
+least_kept k from = least_of (map trip (drop (from - (k.count - length k.stamps)) k.stamps))
+
+-- what is said of one more stamp, by what is kept
+pub record Judges (k : Kept) (s : Stamp) (answer : Base) : Type 0 where
+  pub least : ℕ
+  pub recent : ℕ
+  pub since : least ≡ least_kept (kept_with k s) (max k.start (k.count - 1023))
+  pub late : recent ≡ least_kept (kept_with k s) (k.count - 31)
+  pub by : answer ≡ judged k.freq k.start k.count least recent
+
+-- what every window has. Accepted stamps are at most as many as the counts up to the last reply, so
+-- their number needs no bound of its own.
+pub record Holds (stamps : Buffer Stamp) (count start freq : ℕ) : Type 0 where
+  pub capacity : stamps.capacity ≡ 1024
+  pub few : length stamps.items ≡ min 1024 count
+  pub started : start ≤ count
+  pub low : 1000000 ≤ freq
+  pub high : freq ≤ 16000000000
+  pub accepted : AreAccepted freq stamps.items
+  pub counted : IfSome (last_of stamps.items) (λ s. count ≤ s.tf)
