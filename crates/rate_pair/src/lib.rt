@@ -1,0 +1,9 @@
+//! How fast a counter runs: its period, from its nominal frequency alone or from two exchanges with a
+//! time server.
+#![tactic(auto)]
+
+mod rates;
+#[cfg(test)]
+mod tests;
+
+pub use rates::{Rate, grains_of, nominal, of_pair};

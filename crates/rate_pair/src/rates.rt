@@ -1,0 +1,111 @@
+// The rates of a counter.
+ghost use Rattle.std.specs.Prelude.{◌≡◌, ◌^◌, ◌≤◌, ◌<◌};
+ghost use Rattle.stamp_text.specs.Accepted.{IsTime, IsTimed, IsSound, Follows};
+ghost use Rattle.rate_pair.specs.Rates.{IsRate, nominal_rate, grains_of, nearest_period, rate_of};
+
+use ff_grain::Bintime;
+use stamp_text::{Stamp, highest_period, lowest_period, nominal_period};
+
+/// How fast a counter runs, in grains of 2^-64 s per count.
+#[derive(Clone, Copy, Debug, PartialEq, Eq)]
+pub struct Rate {
+    /// The period that is estimated.
+    pub period: u64,
+    /// The lower bound of the period.
+    pub low: u64,
+    /// The upper bound of the period.
+    pub high: u64,
+}
+
+impl Rate {
+    ghost use Rattle.std.specs.Prelude.{◌≡◌};
+    ghost use Rattle.rate_pair.specs.Rates.{rate_error};
+
+    /// By how much the period may be wrong, in grains per count: its distance from the bound that is
+    /// farther away.
+    pub fn error(&self) -> u64
+        ensures { result ≡ rate_error self.now }
+    {
+        let above = self.high.saturating_sub(self.period);
+        let below = self.period.saturating_sub(self.low);
+        above.max(below)
+    }
+}
+
+/// The rate of a counter of which only the nominal frequency is known: the nominal period, and the
+/// lowest and the highest that are believed.
+///
+/// `freq` is that frequency in Hz, from 10^6 to 16*10^9.
+pub fn nominal(freq: u64) -> Rate
+    requires low { 1000000 ≤ freq }
+    requires high { freq ≤ 16000000000 }
+    ensures value { result ≡ nominal_rate freq }
+    ensures order { IsRate freq result }
+    ensures above { 0 < result.low }
+    ensures bound { result.high < 2 ^ 45 }
+{
+    Rate {
+        period: nominal_period(freq),
+        low: lowest_period(freq),
+        high: highest_period(freq),
+    }
+}
+
+/// The number of grains of a time that is not negative and below 2^32 s.
+pub fn grains_of(t: Bintime) -> u128
+    requires { IsTime t }
+    ensures value { result ≡ grains_of t }
+    ensures bound { result < 2 ^ 96 }
+{
+    t.grains().unsigned_abs()
+}
+
+// The believed period that is nearest to a number.
+fn nearest_period(freq: u64, x: u128) -> u64
+    requires low { 1000000 ≤ freq }
+    requires high { freq ≤ 16000000000 }
+    ensures value { result ≡ nearest_period freq x }
+    ensures above { 0 < result }
+    ensures bound { result < 2 ^ 45 }
+{
+    let lowest = u128::from(lowest_period(freq));
+    let highest = u128::from(highest_period(freq));
+    x.clamp(lowest, highest) as u64
+}
+
+/// The rate of a counter by two exchanges with the server, `j` before `k`.
+///
+/// The period is the grains from one to the other over the counts from one to the other, each summed
+/// over both ways of the exchange, and rounded down. The server may have read its clock anywhere in
+/// the two round trips. So the lower bound divides by the counts and both round trips, rounded down,
+/// and the upper bound by the counts without both round trips, rounded up. Each of the three is then
+/// the number nearest to this among the periods that are believed. After the forward and backward
+/// rates of Veitch, Ridoux and Korada (2009), joined into one fraction.
+///
+/// `freq` is the counter's nominal frequency in Hz, from 10^6 to 16*10^9. Both are accepted stamps of
+/// one list. These do not overlap, so the counts are more than both round trips.
+#[tactic(auto, using(crate::proofs::RateLaws::pair_is_rate), unfolding(crate::specs::Rates::rate_of))]
+pub fn of_pair(j: &Stamp, k: &Stamp, freq: u64) -> Rate
+    requires low { 1000000 ≤ freq }
+    requires high { freq ≤ 16000000000 }
+    requires first { IsTimed j.now }
+    requires second { IsTimed k.now }
+    requires first_sound { IsSound freq j.now }
+    requires second_sound { IsSound freq k.now }
+    requires follows { Follows j.now k.now }
+    ensures value { result ≡ rate_of j.now k.now freq }
+    ensures order { IsRate freq result }
+    ensures above { 0 < result.low }
+    ensures bound { result.high < 2 ^ 45 }
+{
+    let forward = grains_of(k.tb) - grains_of(j.tb);
+    let backward = grains_of(k.te) - grains_of(j.te);
+    let grains = forward + backward;
+    let counts = u128::from((k.ta - j.ta) + (k.tf - j.tf));
+    let trips = u128::from((j.tf - j.ta) + (k.tf - k.ta));
+    Rate {
+        period: nearest_period(freq, grains / counts),
+        low: nearest_period(freq, grains / (counts + trips)),
+        high: nearest_period(freq, grains.div_ceil(counts - trips)),
+    }
+}
