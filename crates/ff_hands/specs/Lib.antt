@@ -1,0 +1,4 @@
+pub mod Orders
+pub mod Windups
+pub mod Journals
+pub mod Bounds
