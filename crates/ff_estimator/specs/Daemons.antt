@@ -1,0 +1,57 @@
+-- What a daemon keeps, and which accepted stamps that stands for.
+use Rattle.std.specs.Prelude.{◌≡◌, ℕ, ℤ, ◌+◌, ◌-◌, ◌*◌, ◌≤◌, pos, ◌≤ℤ◌, max, if◌then◌else◌, List, length, map, drop, Option, None, Some}
+use Rattle.stamp_text.specs.Accepted.{last_of}
+use Rattle.stamp_text.specs.declared.lines.Stamp.{Stamp}
+use Rattle.rtt_window.specs.Windows as windows
+use Rattle.rtt_window.specs.Pairs.{pair_of}
+use Rattle.rtt_window.specs.declared.bases.Base.{Base}
+use Rattle.rate_pair.specs.declared.rates.Rate.{Rate}
+use Rattle.offset_weights.specs.Means.{mean_of}
+use Rattle.ff_estimator.specs.Rates.{rate_by, uses_local}
+use Rattle.ff_estimator.specs.Terms.{term_of}
+use Rattle.ff_estimator.specs.Choices.{chosen, predicted_by, taken_before}
+use Rattle.ff_estimator.specs.declared.rates.Rates.{Rates}
+use Rattle.ff_estimator.specs.declared.choices.Taken.{Taken}
+
+-- the window of the last stamps, and what was taken at the newest one
+pub record Kept : Type 0 where
+  pub window : windows.Kept
+  pub taken : Taken
+
+-- a daemon that keeps this may have accepted these stamps, at this frequency
+pub record StandsFor (k : Kept) (freq : ℕ) (all : List Stamp) : Type 0 where
+  pub window : windows.StandsFor k.window freq all
+  pub taken : k.taken ≡ taken_before freq all (length all)
+
+-- the rates at the newest stamp, by the window
+pub record AreRates (w : windows.Kept) (rates : Rates) : Type 0 where
+  pub global : rates.global ≡ rate_by w.freq (pair_of 1024 w.stamps)
+  pub local : rates.local ≡ uses_local (w.count - 1) (rate_by w.freq (pair_of 64 w.stamps)) rates.global
+  pub in_use : rates.in_use ≡ (if rates.local then rate_by w.freq (pair_of 64 w.stamps) else rates.global)
+
+-- the mean at the newest stamp, whose reply came at `now`, by the window
+abbrev pub mean_kept : windows.Kept → Base → Rate → ℕ → Option (ℤ × ℕ)
+mean_kept w base rate now = mean_of (map (term_of w.freq base.base rate now) (drop (max base.start (w.count - 1 - 31) - (w.count - length w.stamps)) w.stamps))
+
+-- what is taken at the newest stamp, given what was taken at the count before it
+abbrev pub taken_kept : windows.Kept → Base → Rates → ℕ → ℕ → Taken → Taken
+taken_kept w base rates before now t = chosen (w.count - 1) t.run (predicted_by rates.global (now - before) t) (mean_kept w base rates.in_use now)
+
+-- the count at which the reply of the newest stamp came, and 0 before there is one
+abbrev pub count_of : Option Stamp → ℕ
+count_of None = 0
+count_of (Some s) = s.tf
+
+-- a time that is not negative, and with its spread grows by at most 2^45 grains a count
+pub record IsBounded (t : Taken) (count : ℕ) : Type 0 where
+  pub low : pos 0 ≤ℤ t.time
+  pub high : t.time ≤ℤ pos (158456325028528675187087900672 + 35184372088832 * count)
+  pub spread : t.spread ≤ 158456325028528675187087900673 + 35184372088832 * count
+  pub run : t.run ≤ 32
+
+-- what every daemon has
+pub record Holds (k : Kept) (freq : ℕ) : Type 0 where
+  pub at : k.window.freq ≡ freq
+  pub low : 1000000 ≤ freq
+  pub high : freq ≤ 16000000000
+  pub bounded : IsBounded k.taken (count_of (last_of k.window.stamps))

@@ -1,0 +1,6 @@
+pub mod Rates
+pub mod Terms
+pub mod Means
+pub mod Choices
+pub mod Estimates
+pub mod Daemons

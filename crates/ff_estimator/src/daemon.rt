@@ -1,0 +1,190 @@
+// The daemon.
+ghost use Rattle.std.specs.Prelude.{◌≡◌, ◌<◌, ◌≤◌, ◌-◌, ◌+◌, ◌^◌, ℕ, List, [], ◌∷◌, ◌++◌, length, Ok, IfOk, IfSome, pos, ◌≤ℤ◌, ◌<ℤ◌};
+ghost use Rattle.stamp_text.specs.Accepted.{IsTimed, accept_of, accepted_with, last_of};
+ghost use Rattle.stamp_text.specs.declared.accepts.Refused.{Refused};
+ghost use Rattle.stamp_text.specs.declared.lines.Stamp.{Stamp};
+ghost use Rattle.rate_pair.specs.Rates.{IsRate};
+ghost use Rattle.ff_estimator.specs.Estimates.{full_at, fed_of};
+ghost use Rattle.ff_estimator.specs.Daemons.{StandsFor, IsBounded, count_of, mean_kept, taken_kept};
+
+use crate::choices::{Taken, chosen, predicted_by};
+use crate::fulls::{Fed, Full, full_of};
+use crate::means::mean;
+use crate::rates::{Rates, rates_at};
+use ff_grain::NoMemory;
+use rate_pair::Rate;
+use rtt_window::{Base, Window};
+use stamp_text::{Refused, Stamp, accept};
+use std::alloc::Global;
+use std::marker::Model;
+
+/// The daemon: it keeps the last accepted stamps and what was taken at the newest one.
+#[derive(Drop)]
+pub struct Daemon {
+    window: Window,
+    taken: Taken,
+    freq: u64,
+}
+
+impl Model for Daemon {
+    ghost use Rattle.ff_estimator.specs.Daemons.{Kept, Holds};
+
+    ghost Value = { Kept };
+
+    ghost view = { λ d. record { window = d.window; taken = d.taken } };
+
+    ghost invariant = { λ d. Holds (record { window = d.window; taken = d.taken }) d.freq };
+}
+
+/// The stamps that a mean is taken over, at most.
+const RECENT: u64 = 32;
+
+// The newest stamp, if there is one.
+fn newest(window: &Window) -> Option<Stamp>
+    ensures value { result ≡ last_of window.now.stamps }
+    ensures timed { IfSome result IsTimed }
+{
+    match window.len().checked_sub(1) {
+        Some(last) => Some(window.stamp(last)),
+        None => None,
+    }
+}
+
+// The count at which the reply of the newest stamp came, and 0 before there is one.
+fn newest_count(window: &Window) -> u64
+    ensures value { result ≡ count_of (last_of window.now.stamps) }
+    ensures bound { result < 2 ^ 62 }
+{
+    match newest(window) {
+        Some(s) => s.tf,
+        None => 0,
+    }
+}
+
+// The mean at the newest stamp and its spread, in grains.
+fn mean_at(window: &Window, freq: u64, base: &Base, rate: &Rate, now: u64) -> Option<(i128, u128)>
+    requires low { 1000000 ≤ freq }
+    requires high { freq ≤ 16000000000 }
+    requires at { window.now.freq ≡ freq }
+    requires some { 0 < window.now.count }
+    requires order { IsRate freq rate.now }
+    requires now { now < 2 ^ 62 }
+    ensures value { result ≡ mean_kept window.now base.now rate.now now }
+    ensures time { IfSome result (λ m. (pos 0 ≤ℤ m.0) × (m.0 <ℤ pos (2 ^ 97))) }
+    ensures spread { IfSome result (λ m. m.1 ≤ 2 ^ 97 + 1) }
+{
+    let i = window.count() - 1;
+    let first = base.start.max(i.saturating_sub(RECENT - 1));
+    let dropped = window.count() - window.len() as u64;
+    match mean(
+        window,
+        (first - dropped) as usize,
+        freq,
+        base.base,
+        rate,
+        now,
+    ) {
+        Some((time, spread)) => Some((time.grains(), spread)),
+        None => None,
+    }
+}
+
+// What is taken at the newest stamp, whose reply came at `now`, given what was taken at `before`.
+fn taken_at(
+    window: &Window,
+    freq: u64,
+    base: &Base,
+    rates: &Rates,
+    before: u64,
+    now: u64,
+    t: &Taken,
+) -> Taken
+    requires low { 1000000 ≤ freq }
+    requires high { freq ≤ 16000000000 }
+    requires at { window.now.freq ≡ freq }
+    requires some { 0 < window.now.count }
+    requires order { IsRate freq rates.now.global × IsRate freq rates.now.in_use }
+    requires bound { rates.now.global.high < 2 ^ 45 }
+    requires later { before ≤ now }
+    requires now { now < 2 ^ 62 }
+    requires bounded { IsBounded t.now before }
+    ensures value { result ≡ taken_kept window.now base.now rates.now before now t.now }
+    ensures bounded { IsBounded result now }
+{
+    let mean = mean_at(window, freq, base, &rates.in_use, now);
+    let predicted = predicted_by(&rates.global, now - before, t);
+    chosen(window.count() - 1, t.run, predicted, mean)
+}
+
+impl Daemon {
+    /// A daemon without stamps, for a counter with the nominal frequency `freq` in Hz, from 10^6 to
+    /// 16*10^9.
+    ///
+    /// It takes all its memory here, and want of it is the only error.
+    #[tactic(auto, unfolding(crate::specs::Choices::taken_before))]
+    pub fn new(alloc: Global, freq: u64) -> Result<Daemon, NoMemory>
+        requires low { 1000000 ≤ freq }
+        requires high { freq ≤ 16000000000 }
+        ensures { IfOk result (λ d. StandsFor d freq []) }
+    {
+        let taken = Taken {
+            time: 0,
+            spread: 0,
+            predicted: false,
+            run: 0,
+        };
+        Ok(Daemon {
+            window: Window::new(alloc, freq)?,
+            taken,
+            freq,
+        })
+    }
+
+    // Tests a stamp against the newest one.
+    fn test(&self, s: &Stamp) -> Result<(), Refused>
+        requires { IsTimed s.now }
+        ensures { result ≡ accept_of (last_of self.now.window.stamps) s.now self.now.window.freq }
+    {
+        accept(newest(&self.window).as_ref(), s, self.freq)
+    }
+
+    // The estimate at a stamp that is accepted behind the newest one.
+    fn estimate(&mut self, s: Stamp) -> Full
+        requires timed { IsTimed s }
+        requires accepted { accept_of (last_of self.old.window.stamps) s self.old.window.freq ≡ Ok tt }
+        ensures stands { (freq : ℕ) (all : List Stamp) → StandsFor self.old freq all → StandsFor self.new freq (all ++ s ∷ []) }
+        ensures value { (freq : ℕ) (all : List Stamp) → StandsFor self.old freq all → result ≡ full_at freq (all ++ s ∷ []) (length all) }
+    {
+        let before = newest_count(&self.window);
+        let base = self.window.add(s);
+        let rates = rates_at(&self.window, self.freq);
+        self.taken = taken_at(
+            &self.window,
+            self.freq,
+            &base,
+            &rates,
+            before,
+            s.tf,
+            &self.taken,
+        );
+        let i = self.window.count() - 1;
+        full_of(i, s.tf, &rates, base.shifted, &self.taken, self.freq)
+    }
+
+    /// Takes the next stamp: refuses it by the first test that it fails behind the newest accepted
+    /// one, and is then unchanged, or answers the estimate at it.
+    ///
+    /// Its counters are below 2^62, and its times from 0 to below 2^32 s. After the algorithm of
+    /// Veitch, Ridoux and Korada.
+    pub fn feed(&mut self, s: Stamp) -> Fed
+        requires { IsTimed s }
+        ensures answer { (freq : ℕ) (all : List Stamp) → StandsFor self.old freq all → result ≡ fed_of freq all s }
+        ensures stands { (freq : ℕ) (all : List Stamp) → StandsFor self.old freq all → StandsFor self.new freq (accepted_with all s (accept_of (last_of all) s freq)) }
+        ensures refused { (why : Refused) → result ≡ Fed.Refused why → self.new ≡ self.old }
+    {
+        match self.test(&s) {
+            Ok(()) => Fed::Estimate(self.estimate(s)),
+            Err(why) => Fed::Refused(why),
+        }
+    }
+}

@@ -1,0 +1,14 @@
+//! The daemon: from accepted stamps to estimates of the time, each with its bounds.
+#![tactic(auto)]
+
+mod choices;
+mod daemon;
+mod fulls;
+mod means;
+mod rates;
+#[cfg(test)]
+mod tests;
+
+pub use choices::first_has_mean;
+pub use daemon::Daemon;
+pub use fulls::{Fed, Full, estimates_stay};
