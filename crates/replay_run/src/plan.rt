@@ -1,0 +1,117 @@
+// The plan of a replay.
+ghost use Rattle.std.specs.Prelude.{◌≡◌, ◌+◌, ◌-◌, ◌*◌, ◌^◌, ◌≤◌, ◌++◌, length, min, IfOk, OnOk};
+ghost use Rattle.ff_hands.specs.declared.estimates.Estimate.{Estimate};
+ghost use Rattle.replay_run.specs.Plans.{NeverFall, count_between, estimates_of, plan_of, steps_between};
+
+use ff_estimator::Full;
+use ff_grain::{Bintime, NoMemory};
+use ff_hands::{Order, reset_estimate};
+use std::alloc::Global;
+
+/// How a replay goes.
+#[derive(Clone, Copy, Debug, PartialEq, Eq)]
+pub struct Options {
+    /// How many plain steps stand between two estimates, at most 15.
+    pub ticks: u32,
+    /// How many readers read the clock beside the driver, at most 16.
+    pub readers: u32,
+    /// How often each reader reads, at most 16384 times.
+    pub reads: u32,
+    /// The readers also convert a count of their own past.
+    pub back: bool,
+    /// The counter is raised beside the driver too.
+    pub crank: bool,
+}
+
+/// A step of a plan.
+#[derive(Clone, Copy, Debug, PartialEq, Eq)]
+pub struct PlanStep {
+    /// The count up to which the counter is raised first.
+    pub to: u64,
+    /// What the clock is then wound by.
+    pub order: Order,
+}
+
+/// The steps by which the driver of a replay winds the clock.
+#[derive(Drop)]
+pub struct Plan {
+    /// The counter's nominal frequency in Hz, from 10^6 to 16*10^9.
+    pub freq: u64,
+    pub options: Options,
+    pub steps: Vec<PlanStep>,
+}
+
+/// The time that the clock is first set to.
+const START: Bintime = Bintime { sec: 0, frac: 0 };
+
+// How many steps the plan of so many estimates has.
+fn room_for(estimates: usize, ticks: u32) -> usize
+    ensures { result ≡ min (2 ^ 64 - 1) (1 + estimates + ticks * (estimates - 1)) }
+{
+    let plain = estimates.saturating_sub(1).saturating_mul(ticks as usize);
+    estimates.saturating_add(1).saturating_add(plain)
+}
+
+// The count at the end of part `part` of the way between two counts, which is cut into one part more
+// than `ticks`. The product passes a word: it has up to 67 bits.
+fn count_between(from: u64, to: u64, part: u32, ticks: u32) -> u64
+    requires order { from ≤ to }
+    requires part { part ≤ ticks }
+    ensures { result ≡ count_between ticks from to part }
+{
+    let way = u128::from(part) * u128::from(to - from);
+    from + (way / (u128::from(ticks) + 1)) as u64
+}
+
+// Lets the clocks go on `ticks` times between two estimates.
+fn push_between(steps: &mut Vec<PlanStep>, from: u64, to: u64, ticks: u32) -> Result<(), NoMemory>
+    requires order { from ≤ to }
+    ensures { OnOk result (steps.new.items ≡ steps.old.items ++ steps_between ticks from to) }
+{
+    for part in 0..ticks {
+        steps.push(PlanStep {
+            to: count_between(from, to, part + 1, ticks),
+            order: Order::Plain,
+        })?;
+    }
+    Ok(())
+}
+
+impl Plan {
+    /// The plan to replay the estimates of a daemon for a counter of `freq` Hz, from 10^6 to 16*10^9.
+    ///
+    /// Step 0 resets the clock to the time 0 at the count 0. Each estimate is then taken at its own
+    /// count, and between two estimates the clock goes on at evenly spread counts, rounded down. The
+    /// counts of the estimates may not fall.
+    ///
+    /// It takes all its memory here, and want of it is the only error.
+    pub fn of(alloc: Global, freq: u64, fulls: &[Full], options: &Options) -> Result<Plan, NoMemory>
+        requires low { 1000000 ≤ freq }
+        requires high { freq ≤ 16000000000 }
+        requires counts { NeverFall fulls.now }
+        ensures { IfOk result (λ p. (p.freq ≡ freq) × (p.options ≡ options.now) × (p.steps.items ≡ plan_of freq (estimates_of fulls.now) options.now.ticks)) }
+    {
+        let ticks = options.ticks;
+        let mut steps = Vec::with_capacity(alloc, room_for(fulls.len(), ticks))?;
+        steps.push(PlanStep {
+            to: 0,
+            order: Order::Reset(reset_estimate(START, 0, freq)),
+        })?;
+        for i in 0..fulls.len() {
+            let est = fulls[i].est;
+            let count = est.update_ffcount;
+            steps.push(PlanStep {
+                to: count,
+                order: Order::Take(est),
+            })?;
+            if i + 1 < fulls.len() {
+                push_between(&mut steps, count, fulls[i + 1].est.update_ffcount, ticks)?;
+            }
+        }
+        Ok(Plan {
+            freq,
+            options: *options,
+            steps,
+        })
+    }
+}
