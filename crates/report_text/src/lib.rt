@@ -6,6 +6,6 @@ mod lines;
 mod names;
 
 pub use lines::{
-    EndCounts, FaultText, Limit, ReportHead, end_line, fault_line, head_line, refused_line,
-    stamp_line,
+    EndCounts, FaultText, Limit, ReportHead, base_line, end_line, estimate_line, fault_line,
+    head_line, refused_line, stamp_line, tick_line,
 };

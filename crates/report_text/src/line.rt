@@ -1,6 +1,6 @@
 // A line that is being made.
 ghost use Rattle.std.specs.Prelude.{◌≡◌, ◌+◌, ◌≤◌, [], ◌++◌, length};
-ghost use Rattle.report_text.specs.Text.{time_text, count_text};
+ghost use Rattle.report_text.specs.Text.{time_text, count_text, flag_text, letter_text};
 
 use arrayvec::ArrayVec;
 use ff_grain::Bintime;
@@ -64,6 +64,25 @@ impl LineText {
         self.number(t.sec);
         self.word(b"+");
         self.number(t.frac);
+    }
+
+    /// Adds 1 where it is so, and 0 where it is not.
+    pub fn flag(&mut self, is: bool)
+        requires { length self.old + 1 ≤ 640 }
+        ensures text { self.new ≡ self.old ++ flag_text is }
+        ensures short { length self.new ≤ length self.old + 1 }
+    {
+        self.word(if is { b"1" } else { b"0" });
+    }
+
+    /// Adds a letter where it is so, and a dash where it is not.
+    pub fn letter(&mut self, letter: &[u8], is: bool)
+        requires room { length self.old + 1 ≤ 640 }
+        requires one { length letter.now ≡ 1 }
+        ensures text { self.new ≡ self.old ++ letter_text letter.now is }
+        ensures short { length self.new ≤ length self.old + 1 }
+    {
+        self.word(if is { letter } else { b"-" });
     }
 
     /// Adds a word and a number, where there is one.

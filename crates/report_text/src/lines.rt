@@ -1,10 +1,13 @@
 // The kinds of line. A line's push fails exactly where the sink's push of its text does.
-ghost use Rattle.std.specs.Prelude.{◌≡◌, ◌≤◌};
-ghost use Rattle.report_text.specs.Text.{head_text, stamp_text, refused_text, end_text, fault_text};
+ghost use Rattle.std.specs.Prelude.{◌≡◌, ◌≤◌, ◌+◌, ◌++◌, length};
+ghost use Rattle.report_text.specs.Text.{head_text, stamp_text, base_text, time_part, spread_part, estimate_text, clock_part, given_part, leap_part, tick_text, refused_text, end_text, fault_text};
 
 use crate::line::LineText;
-use crate::names::{limit_name, refused_name, why_name};
+use crate::names::{how_name, limit_name, marks_name, refused_name, why_name};
+use ff_estimator::Full;
+use ff_hands::{Estimate, Hands};
 use rad_io::{Failed, Sink};
+use rtt_window::Base;
 use stamp_text::{LineFault, Refused, Stamp};
 
 /// Which report it is, with what its first line tells.
@@ -12,6 +15,12 @@ use stamp_text::{LineFault, Refused, Stamp};
 pub enum ReportHead {
     /// The report on stamps; `freq` is the counter's nominal frequency in Hz.
     Stamps { freq: u64 },
+    /// The report on the bases of the round trips.
+    Rtt { freq: u64 },
+    /// The report on the estimates.
+    Estimate { freq: u64 },
+    /// The report on the journal of ticks, with so many between two estimates.
+    Ticks { freq: u64, ticks: u32 },
 }
 
 /// What the end line counts. Ticks and entries are told where a report has them.
@@ -63,6 +72,20 @@ fn head(h: ReportHead) -> LineText
             line.word(b"report stamps freq ");
             line.number(freq);
         }
+        ReportHead::Rtt { freq } => {
+            line.word(b"report rtt freq ");
+            line.number(freq);
+        }
+        ReportHead::Estimate { freq } => {
+            line.word(b"report estimate freq ");
+            line.number(freq);
+        }
+        ReportHead::Ticks { freq, ticks } => {
+            line.word(b"report ticks freq ");
+            line.number(freq);
+            line.word(b" ticks ");
+            line.number(ticks);
+        }
     }
     line.word(b"\n");
     line
@@ -95,6 +118,155 @@ pub fn stamp_line<K: Sink>(sink: &mut K, i: u64, s: &Stamp) -> Result<(), Failed
     line.number(s.tf);
     line.word(b" ");
     line.number(s.tf - s.ta);
+    line.word(b"\n");
+    sink.push(line.bytes())
+}
+
+/// Pushes the line of the accepted stamp with the index `i`, from 0, with its round trip `rtt` in
+/// counts, and what is said of the base.
+#[tactic(auto, unfolding(crate::specs::Text::base_text))]
+pub fn base_line<K: Sink>(sink: &mut K, i: u64, rtt: u64, b: &Base) -> Result<(), Failed>
+    ensures { K.push_gives sink.old (base_text i rtt b.now) result sink.new }
+{
+    let mut line = LineText::new();
+    line.word(b"base ");
+    line.number(i);
+    line.word(b" ");
+    line.number(rtt);
+    line.word(b" ");
+    line.number(b.base);
+    line.word(b" ");
+    line.number(b.start);
+    line.word(b" ");
+    line.flag(b.shifted);
+    line.word(b"\n");
+    sink.push(line.bytes())
+}
+
+// Adds an estimate: the time at a count, the period, their errors, and the marks.
+#[tactic(auto, unfolding(crate::specs::Text::time_part))]
+fn add_time_part(line: &mut LineText, e: &Estimate)
+    requires { length line.old + 240 ≤ 640 }
+    ensures text { line.new ≡ line.old ++ time_part e.now }
+    ensures short { length line.new ≤ length line.old + 200 }
+{
+    line.number(e.update_ffcount);
+    line.word(b" ");
+    line.time(e.update_time);
+    line.word(b" ");
+    line.number(e.period);
+    line.word(b" ");
+    line.number(e.errb_abs);
+    line.word(b" ");
+    line.number(e.errb_rate);
+    line.word(b" ");
+    line.word(marks_name(e.status));
+}
+
+// Adds what stands behind an estimate: the spread, the bounds of the period, and the flags.
+#[tactic(auto, unfolding(crate::specs::Text::spread_part))]
+fn add_spread_part(line: &mut LineText, f: &Full)
+    requires { length line.old + 240 ≤ 640 }
+    ensures text { line.new ≡ line.old ++ spread_part f.now }
+    ensures short { length line.new ≤ length line.old + 200 }
+{
+    line.number(f.spread);
+    line.word(b" ");
+    line.number(f.rate.low);
+    line.word(b" ");
+    line.number(f.rate.high);
+    line.word(b" ");
+    line.letter(b"S", f.shifted);
+    line.letter(b"L", f.local);
+    line.letter(b"P", f.predicted);
+}
+
+/// Pushes the line of the accepted stamp with the index `i`, from 0, with all that is said at it.
+#[tactic(auto, unfolding(crate::specs::Text::estimate_text))]
+pub fn estimate_line<K: Sink>(sink: &mut K, i: u64, f: &Full) -> Result<(), Failed>
+    ensures { K.push_gives sink.old (estimate_text i f.now) result sink.new }
+{
+    let mut line = LineText::new();
+    line.word(b"estimate ");
+    line.number(i);
+    line.word(b" ");
+    add_time_part(&mut line, &f.est);
+    line.word(b" ");
+    add_spread_part(&mut line, f);
+    line.word(b"\n");
+    sink.push(line.bytes())
+}
+
+// Adds where the clocks stand.
+#[tactic(auto, unfolding(crate::specs::Text::clock_part))]
+fn add_clock_part(line: &mut LineText, h: &Hands)
+    requires { length line.old + 300 ≤ 640 }
+    ensures text { line.new ≡ line.old ++ clock_part h.now }
+    ensures short { length line.new ≤ length line.old + 240 }
+{
+    line.word(how_name(h.how));
+    line.word(b" ");
+    line.number(h.count);
+    line.word(b" ");
+    line.time(h.time);
+    line.word(b" ");
+    line.time(h.lerp);
+    line.word(b" ");
+    line.number(h.period_lerp);
+    line.word(b" ");
+    line.time(h.boot);
+    line.word(b" ");
+    line.word(marks_name(h.kstatus));
+}
+
+// Adds the estimate that the clocks go by.
+#[tactic(auto, unfolding(crate::specs::Text::given_part))]
+fn add_given_part(line: &mut LineText, e: &Estimate)
+    requires { length line.old + 240 ≤ 640 }
+    ensures text { line.new ≡ line.old ++ given_part e.now }
+    ensures short { length line.new ≤ length line.old + 200 }
+{
+    line.time(e.update_time);
+    line.word(b" ");
+    line.number(e.update_ffcount);
+    line.word(b" ");
+    line.number(e.period);
+    line.word(b" ");
+    line.number(e.errb_abs);
+    line.word(b" ");
+    line.number(e.errb_rate);
+    line.word(b" ");
+    line.word(marks_name(e.status));
+}
+
+// Adds its leap seconds.
+#[tactic(auto, unfolding(crate::specs::Text::leap_part))]
+fn add_leap_part(line: &mut LineText, e: &Estimate)
+    requires { length line.old + 122 ≤ 640 }
+    ensures text { line.new ≡ line.old ++ leap_part e.now }
+    ensures short { length line.new ≤ length line.old + 122 }
+{
+    line.number(e.leapsec_next);
+    line.word(b" ");
+    line.number(e.leapsec_total);
+    line.word(b" ");
+    line.number(e.leapsec);
+}
+
+/// Pushes the line of the tick with the number `n`, from 0.
+#[tactic(auto, unfolding(crate::specs::Text::tick_text))]
+pub fn tick_line<K: Sink>(sink: &mut K, n: u64, h: &Hands) -> Result<(), Failed>
+    ensures { K.push_gives sink.old (tick_text n h.now) result sink.new }
+{
+    let mut line = LineText::new();
+    line.word(b"tick ");
+    line.number(n);
+    line.word(b" ");
+    add_clock_part(&mut line, h);
+    line.word(b" ");
+    add_given_part(&mut line, &h.est);
+    line.word(b" ");
+    add_leap_part(&mut line, &h.est);
     line.word(b"\n");
     sink.push(line.bytes())
 }
