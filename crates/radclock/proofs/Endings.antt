@@ -1,5 +1,5 @@
 -- What follows from how a run ends.
-use Rattle.std.proofs.Common.{◌≡◌, ◌⊎◌, ℕ, ◌≤◌, false, List, ◌++◌, Option, None, Some, IsSome, is_some, Result, length, refl, sym, ap, ◌∙◌, arith, append-nil, inl, inr}
+use Rattle.std.proofs.Common.{◌≡◌, ◌⊎◌, ℕ, ◌≤◌, Bool, true, false, List, [], ◌++◌, Option, None, Some, Result, length, refl, sym, ap, ◌∙◌, subst, arith, append-nil, inl, inr}
 use Rattle.std.specs.List.{concat}
 use Rattle.std.specs.Option.{option_map}
 use Rattle.std.specs.Io.KnownBytes.{Appends, Consumes, IsAtEnd}
@@ -8,16 +8,18 @@ use Rattle.rad_io.specs.declared.Failed.{Failed}
 use Rattle.stamp_text.specs.Grammar.{given_of_file, fault_of_file}
 use Rattle.stamp_text.specs.declared.lines.LineFault.{LineFault}
 use Rattle.report_text.specs.declared.lines.Limit.TheVariants as limit
-use Rattle.radclock.specs.Inputs.{stamps_in, stop_by, first_stop, stop_of_file, stamps_of_file}
+use Rattle.radclock.specs.Inputs.{stamps_in, accepted_among, accepts_many, stop_by, first_stop, stop_of_file, freq_of_file, stamps_of_file}
 use Rattle.radclock.specs.Readings.{StopsInPiece, StopsAtEnd, Stops}
 use Rattle.radclock.specs.Runs.{Comes, no_line, stopped, read, Ends, WasDone, WasFree}
 use Rattle.radclock.specs.Statuses.{status_of, status_by}
-use Rattle.radclock.specs.Words.{command_in}
+use Rattle.radclock.specs.Words.{command_in, takes_few}
 use Rattle.radclock.specs.declared.inputs.Stop.{Stop}
 use Rattle.radclock.specs.declared.inputs.Stop.TheVariants as stop
 use Rattle.radclock.specs.declared.status.Status.{Status}
 use Rattle.radclock.specs.declared.status.Status.TheVariants as status
-use Rattle.radclock.proofs.Stopping.{by_order, many-stop, few-stop, stop_of_file-short, stop_of_file-long, stop_so_far-long, stop_of_file-stays}
+use Rattle.radclock.specs.declared.words.Command.{Command}
+use Rattle.radclock.proofs.Accepting.{by_order, are-few}
+use Rattle.radclock.proofs.Stopping.{accepted-stop, many-stop, few-stop, stop_of_file-short, stop_of_file-long, stop_so_far-long, stop_of_file-stays}
 
 -- a count that is free did not rise
 not-rose : (before now : ℕ) → WasFree before now → Rose before now → ⊥
@@ -36,31 +38,35 @@ taken-whole (Some xs) None text all told h ended = absurd h
 taken-whole (Some xs) (Some ys) text all told h ended = (let e : all ≡ xs = cc in e) ∙ h ∙ ap (λ (r : List ℕ). text ++ r) ended ∙ append-nil text
 
 -- a stop in a piece, or at the end, is that of the whole input
-in-piece-stops : {S : Type 0} (left : S → Option (List ℕ)) (faults : S → ℕ) (pull : S → List ℕ → Result ℕ Failed → List ℕ → S → Type 0) (old new : S) (s : Stop) (all : List ℕ) → left old ≡ Some all → StopsInPiece left faults pull old s new ⊎ StopsAtEnd left faults pull old s new → stop_of_file all ≡ Some s
-in-piece-stops left faults pull old new s all told (inl here) =
+in-piece-stops : (limited : Bool) {S : Type 0} (left : S → Option (List ℕ)) (faults : S → ℕ) (pull : S → List ℕ → Result ℕ Failed → List ℕ → S → Type 0) (old new : S) (s : Stop) (all : List ℕ) → left old ≡ Some all → StopsInPiece limited left faults pull old s new ⊎ StopsAtEnd limited left faults pull old s new → stop_of_file limited all ≡ Some s
+in-piece-stops limited left faults pull old new s all told (inl here) =
     let rest = taken-all (left old) (left new) (here.text ++ here.piece) all told here.all.bytes in
-    ap stop_of_file rest.1 ∙ stop_of_file-stays (here.text ++ here.piece) rest.0 s here.stops
-in-piece-stops left faults pull old new s all told (inr here) = ap stop_of_file (taken-whole (left old) (left new) here.text all told here.read.bytes here.read.ended) ∙ here.stops
+    ap (stop_of_file limited) rest.1 ∙ stop_of_file-stays limited (here.text ++ here.piece) rest.0 s here.stops
+in-piece-stops limited left faults pull old new s all told (inr here) = ap (stop_of_file limited) (taken-whole (left old) (left new) here.text all told here.read.bytes here.read.ended) ∙ here.stops
 
 -- with no fault counted, the input alone stops a run, or want of memory
-stops-by-input : {S : Type 0} (left : S → Option (List ℕ)) (faults : S → ℕ) (pull : S → List ℕ → Result ℕ Failed → List ℕ → S → Type 0) (old new : S) (s : Stop) (all : List ℕ) → left old ≡ Some all → WasFree (faults old) (faults new) → Stops left faults pull old s new → (status_of s ≡ status_by (stop_of_file all)) ⊎ (status_of s ≡ status.NoMemory)
-stops-by-input left faults pull old new stop.Memory all told free stops = inr refl
-stops-by-input left faults pull old new (stop.Read taken) all told free stops = absurd (not-rose (faults old) (faults new) free stops.1.rose)
-stops-by-input left faults pull old new (stop.Fault f) all told free stops = inl (ap status_by (sym (in-piece-stops left faults pull old new (stop.Fault f) all told stops)))
-stops-by-input left faults pull old new (stop.Large l) all told free stops = inl (ap status_by (sym (in-piece-stops left faults pull old new (stop.Large l) all told stops)))
+stops-by-input : (limited : Bool) {S : Type 0} (left : S → Option (List ℕ)) (faults : S → ℕ) (pull : S → List ℕ → Result ℕ Failed → List ℕ → S → Type 0) (old new : S) (s : Stop) (all : List ℕ) → left old ≡ Some all → WasFree (faults old) (faults new) → Stops limited left faults pull old s new → (status_of s ≡ status_by (stop_of_file limited all)) ⊎ (status_of s ≡ status.NoMemory)
+stops-by-input limited left faults pull old new stop.Memory all told free stops = inr refl
+stops-by-input limited left faults pull old new (stop.Read taken) all told free stops = absurd (not-rose (faults old) (faults new) free stops.1.rose)
+stops-by-input limited left faults pull old new (stop.Fault f) all told free stops = inl (ap status_by (sym (in-piece-stops limited left faults pull old new (stop.Fault f) all told stops)))
+stops-by-input limited left faults pull old new (stop.Large l) all told free stops = inl (ap status_by (sym (in-piece-stops limited left faults pull old new (stop.Large l) all told stops)))
 
 -- what is due, with no fault counted
-due-by-input : {S : Type 0} (left : S → Option (List ℕ)) (faults : S → ℕ) (pull : S → List ℕ → Result ℕ Failed → List ℕ → S → Type 0) (words : List (List ℕ)) (old new : S) (due : Status) (lines : List (List ℕ)) (all : List ℕ) → left old ≡ Some all → IsSome (command_in words) → WasFree (faults old) (faults new) → Comes left faults pull words old new due lines → (due ≡ status_by (stop_of_file all)) ⊎ (due ≡ status.NoMemory)
-due-by-input left faults pull words old new due lines all told line free (no_line none same) = let no : is_some (command_in words) ≡ false = ap is_some none in absurd (cc)
-due-by-input left faults pull words old new due lines all told line free (stopped c is s stops) = stops-by-input left faults pull old new s all told free stops
-due-by-input left faults pull words old new due lines all told line free (read c is text reached sound) = inl (sym (ap status_by (ap stop_of_file (taken-whole (left old) (left new) text all told reached.bytes reached.ended) ∙ sound)))
+due-by-input : {S : Type 0} (left : S → Option (List ℕ)) (faults : S → ℕ) (pull : S → List ℕ → Result ℕ Failed → List ℕ → S → Type 0) (words : List (List ℕ)) (old new : S) (due : Status) (lines : List (List ℕ)) (command : Command) (all : List ℕ) → command_in words ≡ Some command → left old ≡ Some all → WasFree (faults old) (faults new) → Comes left faults pull words old new due lines → (due ≡ status_by (stop_of_file (takes_few command) all)) ⊎ (due ≡ status.NoMemory)
+due-by-input left faults pull words old new due lines command all line told free (no_line none same) = absurd (cc)
+due-by-input left faults pull words old new due lines command all line told free (stopped c is s stops) =
+    let same : c ≡ command = cc in
+    stops-by-input (takes_few command) left faults pull old new s all told free (subst (λ c. Stops (takes_few c) left faults pull old s new) same stops)
+due-by-input left faults pull words old new due lines command all line told free (read c is text reached sound) =
+    let same : c ≡ command = cc in
+    inl (sym (ap (λ c. status_by (stop_of_file (takes_few c) all)) (sym same) ∙ ap status_by (ap (stop_of_file (takes_few c)) (taken-whole (left old) (left new) text all told reached.bytes reached.ended) ∙ sound)))
 
 -- a run that no count of faults tells of ends as its input says, or for want of memory
-pub complete-by : {S K : Type 0} (left : S → Option (List ℕ)) (pull_faults : S → ℕ) (pull : S → List ℕ → Result ℕ Failed → List ℕ → S → Type 0) (written : K → Option (List ℕ)) (push_faults : K → ℕ) (push : K → List ℕ → Result (Unit {0}) Failed → K → Type 0) (words : List (List ℕ)) (source source' : S) (sink sink' : K) (result : Status) (all : List ℕ)
-    → Ends left pull_faults pull written push_faults push words source source' sink sink' result → left source ≡ Some all → IsSome (command_in words) → WasFree (pull_faults source) (pull_faults source') → WasFree (push_faults sink) (push_faults sink') → (result ≡ status_by (stop_of_file all)) ⊎ (result ≡ status.NoMemory)
-complete-by left pull_faults pull written push_faults push words source source' sink sink' result all ends told line free_source free_sink =
+pub complete-by : {S K : Type 0} (left : S → Option (List ℕ)) (pull_faults : S → ℕ) (pull : S → List ℕ → Result ℕ Failed → List ℕ → S → Type 0) (written : K → Option (List ℕ)) (push_faults : K → ℕ) (push : K → List ℕ → Result (Unit {0}) Failed → K → Type 0) (words : List (List ℕ)) (source source' : S) (sink sink' : K) (result : Status) (command : Command) (all : List ℕ)
+    → Ends left pull_faults pull written push_faults push words source source' sink sink' result → command_in words ≡ Some command → left source ≡ Some all → WasFree (pull_faults source) (pull_faults source') → WasFree (push_faults sink) (push_faults sink') → (result ≡ status_by (stop_of_file (takes_few command) all)) ⊎ (result ≡ status.NoMemory)
+complete-by left pull_faults pull written push_faults push words source source' sink sink' result command all ends line told free_source free_sink =
     elim ends.ends [
-      | inl whole ↦ elim (due-by-input left pull_faults pull words source source' ends.due ends.lines all told line free_source ends.comes) [ inl is ↦ inl (whole.0 ∙ is) | inr memory ↦ inr (whole.0 ∙ memory) ]
+      | inl whole ↦ elim (due-by-input left pull_faults pull words source source' ends.due ends.lines command all line told free_source ends.comes) [ inl is ↦ inl (whole.0 ∙ is) | inr memory ↦ inr (whole.0 ∙ memory) ]
       | inr broken ↦ absurd (not-rose (push_faults sink) (push_faults sink') free_sink broken.1.rose)
     ]
 
@@ -72,10 +78,11 @@ not-done (stop.Fault f) e = cc
 not-done (stop.Large l) e = cc
 
 -- an input that nothing stops is in the grammar and within the limits
-record IsSound (text : List ℕ) : Type 0 where
+record IsSound (limited : Bool) (text : List ℕ) : Type 0 where
   sound : fault_of_file text ≡ None
   few_bytes : length text ≤ 16777216
   few_stamps : length (stamps_of_file text) ≤ 65536
+  few_accepted : limited ≡ true → length (accepted_among (freq_of_file text) [] (stamps_of_file text)) ≤ 16384
 
 no-fault : (fault : Option LineFault) → option_map stop.Fault fault ≡ None → fault ≡ None
 no-fault None e = refl
@@ -85,26 +92,31 @@ first-of-some : (a : Option Stop) (s : Stop) → first_stop a (Some s) ≡ None 
 first-of-some None s e = cc
 first-of-some (Some t) s e = cc
 
-is-sound : (text : List ℕ) → stop_of_file text ≡ None → IsSound text
-unfolding stamps_of_file
-is-sound text none =
+is-sound : (limited : Bool) (text : List ℕ) → stop_of_file limited text ≡ None → IsSound limited text
+unfolding stamps_of_file freq_of_file
+is-sound limited text none =
     let lines = given_of_file text in
     let fault = fault_of_file text in
-    by_order (IsSound text) (length text) 16777216
+    by_order (IsSound limited text) (length text) 16777216
     (λ short.
-    let here : stop_by lines fault ≡ None = sym (stop_of_file-short text short) ∙ none in
-    by_order (IsSound text) (length (stamps_in lines)) 65536
-    (λ few. record { sound = no-fault fault (sym (few-stop lines fault few) ∙ here); few_bytes = short; few_stamps = few })
-    (λ many. let found = many-stop lines fault many in absurd (cc)))
-    (λ long. absurd (first-of-some _ (stop.Large limit.Bytes) (sym (stop_so_far-long text long) ∙ sym (stop_of_file-long text long) ∙ none)))
+    let here : stop_by limited lines fault ≡ None = sym (stop_of_file-short limited text short) ∙ none in
+    let split : (t : Bool) → accepts_many limited lines ≡ t → IsSound limited text =
+    elim [
+      | true ↦ λ many. let found = accepted-stop limited lines fault many in absurd (cc)
+      | false ↦ λ tested. by_order (IsSound limited text) (length (stamps_in lines)) 65536
+          (λ few. record { sound = no-fault fault (sym (few-stop limited lines fault tested few) ∙ here); few_bytes = short; few_stamps = few; few_accepted = are-few limited lines few tested })
+          (λ many. let found = many-stop limited lines fault tested many in absurd (cc))
+    ] in
+    split (accepts_many limited lines) refl)
+    (λ long. absurd (first-of-some _ (stop.Large limit.Bytes) (sym (stop_so_far-long limited text long) ∙ sym (stop_of_file-long limited text long) ∙ none)))
 
 -- what a done run read and wrote
 done-of : {S : Type 0} (left : S → Option (List ℕ)) (faults : S → ℕ) (pull : S → List ℕ → Result ℕ Failed → List ℕ → S → Type 0) (words : List (List ℕ)) (old new : S) (written written' : Option (List ℕ)) (due : Status) (lines : List (List ℕ)) → Comes left faults pull words old new due lines → due ≡ status.Done → Appends written written' (concat lines) → WasDone (left old) (left new) written written' words
 done-of left faults pull words old new written written' due lines (no_line none same) is wrote = absurd (cc)
 done-of left faults pull words old new written written' due lines (stopped c line s stops) is wrote = absurd (not-done s is)
 done-of left faults pull words old new written written' due lines (read c line text reached sound) is wrote =
-    let within = is-sound text sound in
-    record { command = c; line = line; text = text; bytes = reached.bytes; ended = reached.ended; sound = within.sound; few_bytes = within.few_bytes; few_stamps = within.few_stamps; wrote = wrote }
+    let within = is-sound (takes_few c) text sound in
+    record { command = c; line = line; text = text; bytes = reached.bytes; ended = reached.ended; sound = within.sound; few_bytes = within.few_bytes; few_stamps = within.few_stamps; few_accepted = within.few_accepted; wrote = wrote }
 
 pub done-by : {S K : Type 0} (left : S → Option (List ℕ)) (pull_faults : S → ℕ) (pull : S → List ℕ → Result ℕ Failed → List ℕ → S → Type 0) (written : K → Option (List ℕ)) (push_faults : K → ℕ) (push : K → List ℕ → Result (Unit {0}) Failed → K → Type 0) (words : List (List ℕ)) (source source' : S) (sink sink' : K) (result : Status)
     → Ends left pull_faults pull written push_faults push words source source' sink sink' result → result ≡ status.Done → WasDone (left source) (left source') (written sink) (written sink') words

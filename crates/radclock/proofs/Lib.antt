@@ -1,6 +1,12 @@
+pub mod Heads
+pub mod Accepting
 pub mod Stopping
 pub mod Gathering
 pub mod Pieces
 pub mod Underway
 pub mod Progress
 pub mod Endings
+pub mod Fulls
+pub mod Counted
+pub mod Ticking
+pub mod Playing

@@ -1,5 +1,5 @@
 -- What a run reads and writes, and with which status it ends.
-use Rattle.std.specs.Prelude.{◌≡◌, ℕ, ◌<◌, ◌≤◌, ◌⊎◌, List, [], ◌∷◌, length, Option, None, Some, Result}
+use Rattle.std.specs.Prelude.{◌≡◌, ℕ, ◌<◌, ◌≤◌, ◌⊎◌, true, List, [], ◌∷◌, length, Option, None, Some, Result}
 use Rattle.std.specs.List.{concat}
 use Rattle.std.specs.Io.KnownBytes.{Appends, Consumes, IsAtEnd}
 use Rattle.rad_io.specs.Pushes.{Wrote, Broke}
@@ -7,11 +7,11 @@ use Rattle.rad_io.specs.declared.Failed.{Failed}
 use Rattle.stamp_text.specs.Grammar.{fault_of_file}
 use Rattle.report_text.specs.Text.{fault_text}
 use Rattle.report_text.specs.declared.lines.FaultText.TheVariants as fault
-use Rattle.radclock.specs.Inputs.{most_bytes, most_stamps, stop_of_file, freq_of_file, stamps_of_file}
+use Rattle.radclock.specs.Inputs.{most_bytes, most_stamps, most_accepted, accepted_among, stop_of_file, freq_of_file, stamps_of_file}
 use Rattle.radclock.specs.Readings.{ReachesEnd, Stops}
 use Rattle.radclock.specs.Reports.{report_of}
 use Rattle.radclock.specs.Statuses.{status_of, fault_of}
-use Rattle.radclock.specs.Words.{command_in}
+use Rattle.radclock.specs.Words.{command_in, takes_few}
 use Rattle.radclock.specs.declared.inputs.Stop.{Stop}
 use Rattle.radclock.specs.declared.status.Status.{Status}
 use Rattle.radclock.specs.declared.status.Status.TheVariants as status
@@ -20,13 +20,17 @@ use Rattle.radclock.specs.declared.words.Command.{Command}
 -- which status a run is to end with, and which lines it is to write, by its words and what it read
 pub data Comes {S : Type 0} (left : S → Option (List ℕ)) (faults : S → ℕ) (pull : S → List ℕ → Result ℕ Failed → List ℕ → S → Type 0) (words : List (List ℕ)) (old new : S) : Status → List (List ℕ) → Type 0 where
   no_line : command_in words ≡ None → new ≡ old → Comes left faults pull words old new status.Usage (fault_text fault.Usage ∷ [])
-  stopped : (c : Command) → command_in words ≡ Some c → (stop : Stop) → Stops left faults pull old stop new → Comes left faults pull words old new (status_of stop) (fault_text (fault_of stop) ∷ [])
-  read : (c : Command) → command_in words ≡ Some c → (text : List ℕ) → ReachesEnd left faults pull old text new → stop_of_file text ≡ None → Comes left faults pull words old new status.Done (report_of c (freq_of_file text) (stamps_of_file text))
+  stopped : (c : Command) → command_in words ≡ Some c → (stop : Stop) → Stops (takes_few c) left faults pull old stop new → Comes left faults pull words old new (status_of stop) (fault_text (fault_of stop) ∷ [])
+  read : (c : Command) → command_in words ≡ Some c → (text : List ℕ) → ReachesEnd (takes_few c) left faults pull old text new → stop_of_file (takes_few c) text ≡ None → Comes left faults pull words old new status.Done (report_of c (freq_of_file text) (stamps_of_file text))
 
 -- the lines that were to be written are, and the run ends as it was to, or a push failed, which
 -- was the last one
 abbrev pub EndsWith : {K : Type 0} (written : K → Option (List ℕ)) (faults : K → ℕ) (push : K → List ℕ → Result (Unit {0}) Failed → K → Type 0) → K → List (List ℕ) → Status → Status → K → Type 0
 EndsWith written faults push old lines due result new = ((result ≡ due) × Wrote written faults push old lines new) ⊎ ((result ≡ status.WriteFault) × Broke written faults push old lines new)
+
+-- with these lines for its report a run ends as it is to, or for want of memory
+abbrev pub Finishes : {K : Type 0} (written : K → Option (List ℕ)) (faults : K → ℕ) (push : K → List ℕ → Result (Unit {0}) Failed → K → Type 0) → K → List (List ℕ) → Status → K → Type 0
+Finishes written faults push old lines result new = EndsWith written faults push old lines status.Done result new ⊎ EndsWith written faults push old (fault_text fault.Memory ∷ []) status.NoMemory result new
 
 -- the whole run
 pub record Ends {S K : Type 0} (left : S → Option (List ℕ)) (pull_faults : S → ℕ) (pull : S → List ℕ → Result ℕ Failed → List ℕ → S → Type 0) (written : K → Option (List ℕ)) (push_faults : K → ℕ) (push : K → List ℕ → Result (Unit {0}) Failed → K → Type 0) (words : List (List ℕ)) (source source' : S) (sink sink' : K) (result : Status) : Type 0 where
@@ -46,6 +50,7 @@ pub record WasDone (left left' written written' : Option (List ℕ)) (words : Li
   pub sound : fault_of_file text ≡ None
   pub few_bytes : length text ≤ most_bytes
   pub few_stamps : length (stamps_of_file text) ≤ most_stamps
+  pub few_accepted : takes_few command ≡ true → length (accepted_among (freq_of_file text) [] (stamps_of_file text)) ≤ most_accepted
   pub wrote : Appends written written' (concat (report_of command (freq_of_file text) (stamps_of_file text)))
 
 -- the count of faults did not rise, and does not stand at its last value

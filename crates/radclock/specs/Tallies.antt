@@ -2,7 +2,7 @@
 use Rattle.std.specs.Prelude.{◌≡◌, ℕ, ◌+◌, List, length, is_ok, is_err, Result, if◌then◌else◌}
 use Rattle.stamp_text.specs.declared.accepts.Refused.{Refused}
 use Rattle.stamp_text.specs.declared.lines.Stamp.{Stamp}
-use Rattle.radclock.specs.Reports.{last_of}
+use Rattle.stamp_text.specs.Accepted.{last_of}
 use Rattle.radclock.specs.declared.reports.Tally.{Tally}
 
 -- a value and a tally stand for these accepted stamps

@@ -8,6 +8,9 @@ pub const MOST_BYTES: u64 = 16_777_216;
 /// The most well-formed stamp lines of an input.
 pub const MOST_STAMPS: usize = 65_536;
 
+/// The most accepted stamps of an input, where these are limited.
+pub const MOST_ACCEPTED: usize = 16_384;
+
 /// A well-formed stamp and the number of its line, from 1.
 #[derive(Clone, Copy, Debug, PartialEq, Eq)]
 pub struct StampLine {

@@ -2,7 +2,14 @@
 //! words ask for to standard output.
 #![tactic(auto)]
 
+mod bases;
+mod estimates;
+mod gather;
 mod inputs;
+mod journal;
+#[cfg(test)]
+mod plain;
+mod plays;
 mod reading;
 mod reports;
 mod run;
@@ -10,6 +17,7 @@ mod stamps;
 mod status;
 #[cfg(test)]
 mod tests;
+mod ticks;
 mod words;
 
 use ff_grain::NoMemory;

@@ -1,10 +1,10 @@
 // The report on a file, for all commands that tell of each stamp.
 ghost use Rattle.std.specs.Prelude.{◌≡◌, ◌+◌, ◌≤◌, ◌<◌, ◌^◌, ℕ, List, [], ◌∷◌, ◌++◌, length, IfOk, IfSome, OnOk, MatchResult, Ok, Err};
 ghost use Rattle.rad_io.specs.Pushes.{Writes};
-ghost use Rattle.stamp_text.specs.Accepted.{IsTimed, accept_of};
+ghost use Rattle.stamp_text.specs.Accepted.{IsTimed, accept_of, accepted_with, last_of};
 ghost use Rattle.stamp_text.specs.declared.lines.Stamp.{Stamp};
 ghost use Rattle.radclock.specs.Inputs.{IsRanged};
-ghost use Rattle.radclock.specs.Reports.{report, outcomes, last_of, accepted_with, told_of, IsNext};
+ghost use Rattle.radclock.specs.Reports.{report, outcomes, told_of, IsNext};
 ghost use Rattle.radclock.specs.Tallies.{StandsAt, Counts};
 
 use crate::inputs::{StampFile, StampLine};

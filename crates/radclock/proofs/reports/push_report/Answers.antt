@@ -3,11 +3,11 @@ use Rattle.std.specs.List.{count_by}
 use Rattle.std.proofs.lemmas.Result.{err_from_is_err_and}
 use Rattle.rad_io.specs.Pushes.{Writes, Broke}
 use Rattle.rad_io.proofs.Chains.{wrote_nothing, wrote_more, writes_last, broke}
-use Rattle.stamp_text.specs.Accepted.{accept_of}
+use Rattle.stamp_text.specs.Accepted.{accept_of, accepted_with}
 use Rattle.report_text.specs.Text.{head_text, end_text}
 use Rattle.report_text.specs.declared.lines.EndCounts.{EndCounts}
 use Rattle.radclock.specs.declared.inputs.StampLine.{StampLine}
-use Rattle.radclock.specs.Reports.{Outcome, report, outcomes, told, told_of, accepted_with}
+use Rattle.radclock.specs.Reports.{Outcome, report, outcomes, told, told_of}
 use Rattle.radclock.proofs.Progress.{answer_to, lines-next, count-next, next-whole, counted, one-answer, lines-done, count-done}
 use Rattle.radclock.proofs.reports.push_report.Goals as goal
 

@@ -5,4 +5,4 @@ pub returns-clause-done : goal.returns-clause-done
 returns-clause-done g c is = done-by _ _ _ _ _ _ _ _ _ _ _ _ c.answer.ensures is
 
 pub returns-clause-complete : goal.returns-clause-complete
-returns-clause-complete g c text told line free_source free_sink = complete-by _ _ _ _ _ _ _ _ _ _ _ _ text c.answer.ensures told line free_source free_sink
+returns-clause-complete g c command text line told free_source free_sink = complete-by _ _ _ _ _ _ _ _ _ _ _ _ command text c.answer.ensures line told free_source free_sink
