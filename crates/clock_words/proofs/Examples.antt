@@ -1,0 +1,79 @@
+-- What the definition of a line says of some words.
+use Rattle.std.proofs.Common.{◌≡◌, [], ◌∷◌, None, Some, codes, refl}
+use Rattle.std.specs.Str.{chars}
+use Rattle.clock_words.specs.Lines.{command_in, make_row, replay_row, ticks_row}
+use Rattle.clock_words.specs.Rows.{items_from, items_in}
+use Rattle.clock_words.specs.declared.commands.Command.TheVariants as command
+use Rattle.clock_words.specs.declared.commands.Report.TheVariants as report
+
+-- in both spellings, in any order
+apart : items_in ticks_row (codes "--ticks" ∷ codes "7" ∷ []) ≡ Some ((codes "ticks", codes "7") ∷ [])
+unfolding items_in items_from
+apart = refl
+
+joined : items_in ticks_row (codes "--ticks=7" ∷ []) ≡ Some ((codes "ticks", codes "7") ∷ [])
+unfolding items_in items_from
+joined = refl
+
+places : items_in make_row (codes "7" ∷ codes "3" ∷ []) ≡ Some ((codes "NUMBER", codes "7") ∷ (codes "COUNT", codes "3") ∷ [])
+unfolding items_in items_from
+places = refl
+
+mixed : items_in replay_row (codes "--back" ∷ codes "--reads" ∷ codes "9" ∷ codes "--ticks=0" ∷ []) ≡ Some ((codes "back", codes "true") ∷ (codes "reads", codes "9") ∷ (codes "ticks", codes "0") ∷ [])
+unfolding items_in items_from
+mixed = refl
+
+-- each name at most once
+twice : items_in replay_row (codes "--ticks" ∷ codes "4" ∷ codes "--crank" ∷ codes "--ticks=4" ∷ []) ≡ None
+unfolding items_in items_from
+twice = refl
+
+flag_twice : items_in replay_row (codes "--back" ∷ codes "--back" ∷ []) ≡ None
+unfolding items_in items_from
+flag_twice = refl
+
+-- no flag with a value, no option without one, no flag for a value, and no `--`
+flag_with_value : items_in replay_row (codes "--back=" ∷ []) ≡ None
+unfolding items_in items_from
+flag_with_value = refl
+
+no_value : items_in replay_row (codes "--readers" ∷ []) ≡ None
+unfolding items_in items_from
+no_value = refl
+
+flag_for_value : items_in replay_row (codes "--ticks" ∷ codes "--back" ∷ []) ≡ None
+unfolding items_in items_from chars
+flag_for_value = refl
+
+dashes : items_in replay_row (codes "--" ∷ []) ≡ None
+unfolding items_in items_from
+dashes = refl
+
+short : items_in replay_row (codes "-ticks" ∷ codes "4" ∷ []) ≡ None
+unfolding items_in items_from
+short = refl
+
+-- values in their ranges, as numbers are written
+most : command_in (codes "ticks" ∷ codes "--ticks=15" ∷ []) ≡ Some (command.Report (report.Ticks 15))
+unfolding command_in items_in items_from
+most = refl
+
+one_more : command_in (codes "ticks" ∷ codes "--ticks=16" ∷ []) ≡ None
+unfolding command_in items_in items_from
+one_more = refl
+
+empty_value : command_in (codes "ticks" ∷ codes "--ticks=" ∷ []) ≡ None
+unfolding command_in items_in items_from
+empty_value = refl
+
+leading_zero : command_in (codes "make" ∷ codes "07" ∷ codes "3" ∷ []) ≡ None
+unfolding command_in items_in items_from
+leading_zero = refl
+
+made : command_in (codes "make" ∷ codes "7" ∷ codes "3" ∷ []) ≡ Some (command.Make 7 3)
+unfolding command_in items_in items_from
+made = refl
+
+not_offered : command_in (codes "replay" ∷ []) ≡ None
+unfolding command_in
+not_offered = refl

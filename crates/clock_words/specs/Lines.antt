@@ -1,0 +1,80 @@
+-- The lines of the program: the name of a command, and what its row has behind it.
+use Rattle.std.specs.Prelude.{ℕ, ◌<◌, ◌≤◌, nat_le, if◌then◌else◌, List, [], ◌∷◌, Option, None, Some, codes, option_map, option_and_then}
+use Rattle.std.specs.Option.{option_zip}
+use Rattle.std.specs.Str.{bytes_eq}
+use Rattle.stamp_text.specs.Digits.{number_in}
+use Rattle.clock_words.specs.Rows.{Text, Row, Item, value_of, items_in}
+use Rattle.clock_words.specs.declared.commands.Command.{Command}
+use Rattle.clock_words.specs.declared.commands.Command.TheVariants as command
+use Rattle.clock_words.specs.declared.commands.Report.TheVariants as report
+
+-- the names of a row
+abbrev pub ticks_name : Text
+ticks_name = codes "ticks"
+
+abbrev pub number_name : Text
+number_name = codes "NUMBER"
+
+abbrev pub count_name : Text
+count_name = codes "COUNT"
+
+-- nothing
+abbrev pub bare_row : Row
+bare_row = record { places = []; options = []; flags = [] }
+
+-- `--ticks T`
+abbrev pub ticks_row : Row
+ticks_row = record { places = []; options = ticks_name ∷ []; flags = [] }
+
+-- `NUMBER COUNT`
+abbrev pub make_row : Row
+make_row = record { places = number_name ∷ count_name ∷ []; options = []; flags = [] }
+
+-- `--ticks T`, `--readers N`, `--reads M`, `--back` and `--crank`, for a command `replay` that is not offered yet
+abbrev pub replay_row : Row
+replay_row = record { places = []; options = ticks_name ∷ codes "readers" ∷ codes "reads" ∷ []; flags = codes "back" ∷ codes "crank" ∷ [] }
+
+-- the number that a text is, from `least` to `most`
+abbrev pub within : ℕ → ℕ → Option ℕ → Option ℕ
+within least most None = None
+within least most (Some n) = if nat_le least n then (if nat_le n most then Some n else None) else None
+
+abbrev pub number_within : ℕ → ℕ → Text → Option ℕ
+number_within least most text = within least most (number_in text)
+
+-- the value of an option, or what stands for it where the words do not give it
+abbrev pub option_within : ℕ → ℕ → ℕ → Option Text → Option ℕ
+option_within least most default None = Some default
+option_within least most default (Some text) = number_within least most text
+
+-- the value in a place
+abbrev pub place_within : ℕ → ℕ → Option Text → Option ℕ
+place_within least most text = option_and_then (number_within least most) text
+
+-- `ticks`: from 0 to 15 plain steps between two estimates, and 4 where the words do not tell
+abbrev pub ticks_of : List Item → Option Command
+ticks_of items = option_map (λ n. command.Report (report.Ticks n)) (option_within 0 15 4 (value_of ticks_name items))
+
+-- `make`: a number below 2^32, and a count from 1 to 16,384
+abbrev pub make_of : List Item → Option Command
+make_of items = option_map (λ p. command.Make p.0 p.1) (option_zip (place_within 0 4294967295 (value_of number_name items)) (place_within 1 16384 (value_of count_name items)))
+
+-- the command that has a name, with what the words behind it say
+abbrev pub command_named : Text → List Text → Option Command
+command_named name words =
+    if bytes_eq name (codes "stamps") then option_map (λ items. command.Report report.Stamps) (items_in bare_row words)
+    else (if bytes_eq name (codes "rtt") then option_map (λ items. command.Report report.Rtt) (items_in bare_row words)
+    else (if bytes_eq name (codes "estimate") then option_map (λ items. command.Report report.Estimate) (items_in bare_row words)
+    else (if bytes_eq name (codes "ticks") then option_and_then ticks_of (items_in ticks_row words)
+    else (if bytes_eq name (codes "make") then option_and_then make_of (items_in make_row words)
+    else None))))
+
+-- the command that words are, if they are a line
+unfoldable pub command_in : List Text → Option Command
+command_in [] = None
+command_in (name ∷ words) = command_named name words
+
+-- what words give to `make` is in range
+abbrev pub IsRanged : Command → Type 0
+IsRanged (command.Report r) = Unit {0}
+IsRanged (command.Make number count) = (number < 4294967296) × (1 ≤ count) × (count ≤ 16384)

@@ -1,0 +1,24 @@
+// The commands of the program.
+
+/// A report on a stamp file.
+#[derive(Clone, Copy, Debug, PartialEq, Eq)]
+pub enum Report {
+    /// The accepted stamps with their round trips, and the refused ones.
+    Stamps,
+    /// The base of the round trips at each accepted stamp, and the refused stamps.
+    Rtt,
+    /// The daemon's estimate at each accepted stamp, and the refused stamps.
+    Estimate,
+    /// The journal of ticks that the daemon's estimates make on a kernel clock, with so many plain
+    /// steps between two of them, at most 15.
+    Ticks { ticks: u32 },
+}
+
+/// A command of the program.
+#[derive(Clone, Copy, Debug, PartialEq, Eq)]
+pub enum Command {
+    /// A report on the stamp file that is the input.
+    Report(Report),
+    /// A file of so many made stamps, from 1 to 16,384, that are drawn from a number below 2^32.
+    Make { number: u64, count: u32 },
+}

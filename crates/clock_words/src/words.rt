@@ -1,0 +1,122 @@
+// The lines of the program.
+ghost use Rattle.std.specs.Prelude.{◌≡◌, ◌≤◌, ◌<◌, ◌^◌, ◌-◌, IfOk, IfSome, map, option_map, option_and_then};
+ghost use Rattle.clock_words.specs.Rows.{items_in};
+ghost use Rattle.clock_words.specs.declared.commands.Command.TheVariants as command;
+ghost use Rattle.clock_words.specs.Lines.{IsRanged, bare_row, ticks_row, make_row, number_within, ticks_of, make_of, command_named, command_in};
+
+use crate::{Command, Report, rows};
+use ff_grain::NoMemory;
+use stamp_text::number_of;
+use std::alloc::Global;
+
+/// How many plain steps stand between two estimates where the words do not tell.
+const TICKS: u64 = 4;
+
+/// The most plain steps between two estimates.
+const MOST_TICKS: u64 = 15;
+
+/// The greatest number that made stamps are drawn by.
+const MOST_NUMBER: u64 = 4_294_967_295;
+
+/// The most stamps that are made.
+const MOST_MADE: u64 = 16_384;
+
+// The number that a text is, from `least` to `most`.
+fn number_within(least: u64, most: u64, text: &str) -> Option<u64>
+    requires { most < 2 ^ 64 - 1 }
+    ensures value { result ≡ number_within least most text.now }
+    ensures within { IfSome result (λ n. (least ≤ n) × (n ≤ most)) }
+{
+    match number_of(text.as_bytes()) {
+        Some(n) if least <= n && n <= most => Some(n),
+        _ => None,
+    }
+}
+
+// A report whose command has nothing behind its name.
+fn bare<'a>(
+    alloc: Global,
+    report: Report,
+    words: &'a [&'a str],
+) -> Result<Option<Command>, NoMemory>
+    ensures value { IfOk result (λ found. found ≡ option_map (λ items. command.Report report) (items_in bare_row (map (λ w. w.now) words.entry.now))) }
+    ensures ranged { IfOk result (λ found. IfSome found IsRanged) }
+{
+    match rows::bare(alloc, words)? {
+        Some(_) => Ok(Some(Command::Report(report))),
+        None => Ok(None),
+    }
+}
+
+fn ticks<'a>(alloc: Global, words: &'a [&'a str]) -> Result<Option<Command>, NoMemory>
+    ensures value { IfOk result (λ found. found ≡ option_and_then ticks_of (items_in ticks_row (map (λ w. w.now) words.entry.now))) }
+    ensures ranged { IfOk result (λ found. IfSome found IsRanged) }
+{
+    let Some(said) = rows::ticks(alloc, words)? else {
+        return Ok(None);
+    };
+    let ticks = match said.value("ticks") {
+        Some(text) => number_within(0, MOST_TICKS, text),
+        None => Some(TICKS),
+    };
+    match ticks {
+        Some(ticks) => Ok(Some(Command::Report(Report::Ticks {
+            ticks: ticks as u32,
+        }))),
+        None => Ok(None),
+    }
+}
+
+fn make<'a>(alloc: Global, words: &'a [&'a str]) -> Result<Option<Command>, NoMemory>
+    ensures value { IfOk result (λ found. found ≡ option_and_then make_of (items_in make_row (map (λ w. w.now) words.entry.now))) }
+    ensures ranged { IfOk result (λ found. IfSome found IsRanged) }
+{
+    let Some(said) = rows::make(alloc, words)? else {
+        return Ok(None);
+    };
+    let (Some(number), Some(count)) = (said.value("NUMBER"), said.value("COUNT")) else {
+        return Ok(None);
+    };
+    match (
+        number_within(0, MOST_NUMBER, number),
+        number_within(1, MOST_MADE, count),
+    ) {
+        (Some(number), Some(count)) => Ok(Some(Command::Make {
+            number,
+            count: count as u32,
+        })),
+        _ => Ok(None),
+    }
+}
+
+// The command that has a name, with what the words behind it say.
+fn command_named<'a>(
+    alloc: Global,
+    name: &str,
+    words: &'a [&'a str],
+) -> Result<Option<Command>, NoMemory>
+    ensures value { IfOk result (λ found. found ≡ command_named name.now (map (λ w. w.now) words.entry.now)) }
+    ensures ranged { IfOk result (λ found. IfSome found IsRanged) }
+{
+    match name {
+        "stamps" => bare(alloc, Report::Stamps, words),
+        "rtt" => bare(alloc, Report::Rtt, words),
+        "estimate" => bare(alloc, Report::Estimate, words),
+        "ticks" => ticks(alloc, words),
+        "make" => make(alloc, words),
+        _ => Ok(None),
+    }
+}
+
+/// The command that the words after the program's name are, if they are a line; the only other
+/// cause of no answer is want of memory.
+#[tactic(auto, unfolding(crate::specs::Lines::command_in))]
+pub fn command_of<'a>(alloc: Global, words: &'a [&'a str]) -> Result<Option<Command>, NoMemory>
+    ensures value { IfOk result (λ found. found ≡ command_in (map (λ w. w.now) words.entry.now)) }
+    ensures ranged { IfOk result (λ found. IfSome found IsRanged) }
+{
+    match words.split_first() {
+        Some((name, rest)) => command_named(alloc, name, rest),
+        None => Ok(None),
+    }
+}
