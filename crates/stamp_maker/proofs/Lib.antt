@@ -1,0 +1,4 @@
+pub mod Drawing
+pub mod Lists
+pub mod Rounding
+pub mod Accepting
