@@ -1,5 +1,5 @@
--- The lines of a report, byte by byte.
-use Rattle.std.specs.Prelude.{ℕ, ◌-◌, Bool, if◌then◌else◌, List, [], ◌++◌, Option, None, Some, codes, decimal}
+-- The lines of a report and of a made stamp file, byte by byte.
+use Rattle.std.specs.Prelude.{ℕ, ◌-◌, Bool, if◌then◌else◌, List, [], ◌++◌, length, replicate, Option, None, Some, codes, decimal}
 use Rattle.std.specs.Fmt.{signed_decimal}
 use Rattle.stamp_text.specs.declared.lines.Why.{Why}
 use Rattle.stamp_text.specs.declared.lines.Why.TheVariants as why
@@ -14,6 +14,7 @@ use Rattle.ff_hands.specs.declared.hands.Hands.{Hands}
 use Rattle.ff_hands.specs.declared.hands.How.{How}
 use Rattle.ff_hands.specs.declared.hands.How.TheVariants as how
 use Rattle.ff_estimator.specs.declared.fulls.Full.{Full}
+use Rattle.stamp_maker.specs.declared.made.Made.{Made}
 use Rattle.report_text.specs.declared.lines.ReportHead.{ReportHead}
 use Rattle.report_text.specs.declared.lines.ReportHead.TheVariants as head
 use Rattle.report_text.specs.declared.lines.EndCounts.{EndCounts}
@@ -132,3 +133,19 @@ fault_text (fault.Input f) = codes "fault input " ++ decimal f.line ++ codes " "
 fault_text (fault.Large l) = codes "fault large " ++ limit_name l ++ codes "\n"
 fault_text (fault.Read taken) = codes "fault read " ++ decimal taken ++ codes "\n"
 fault_text fault.Memory = codes "fault memory\n"
+
+-- nanoseconds below 10^9, in nine digits with leading zeros
+abbrev pub nanos_text : ℕ → List ℕ
+nanos_text nanos = replicate (9 - length (decimal nanos)) 48 ++ decimal nanos
+
+-- a time of a stamp file: its seconds, and the nanoseconds above them behind a point
+abbrev pub written_text : ℕ × ℕ → List ℕ
+written_text t = decimal t.0 ++ codes "." ++ nanos_text t.1
+
+-- what a stamp file says of a made stamp
+unfoldable pub made_row : Made → List ℕ
+made_row m = decimal m.ta ++ codes " " ++ written_text m.tb ++ codes " " ++ written_text m.te ++ codes " " ++ decimal m.tf
+
+-- its line of a stamp file
+unfoldable pub made_text : Made → List ℕ
+made_text m = made_row m ++ codes "\n"

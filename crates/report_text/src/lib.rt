@@ -1,11 +1,16 @@
-//! The lines of a report. Each call makes one whole line with its line end and pushes it at once.
+//! The lines of a report, and those of a made stamp file. Each call makes one whole line with its line end
+//! and pushes it at once.
 #![tactic(auto)]
 
+mod laws;
 mod line;
 mod lines;
+mod made;
 mod names;
 
+pub use laws::{made_files_are_read, made_lines_are_read};
 pub use lines::{
     EndCounts, FaultText, Limit, ReportHead, base_line, end_line, estimate_line, fault_line,
     head_line, refused_line, stamp_line, tick_line,
 };
+pub use made::made_line;

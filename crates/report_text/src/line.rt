@@ -1,6 +1,6 @@
 // A line that is being made.
-ghost use Rattle.std.specs.Prelude.{◌≡◌, ◌+◌, ◌≤◌, [], ◌++◌, length};
-ghost use Rattle.report_text.specs.Text.{time_text, count_text, flag_text, letter_text};
+ghost use Rattle.std.specs.Prelude.{◌≡◌, ◌+◌, ◌-◌, ◌<◌, ◌≤◌, [], ◌++◌, length, replicate};
+ghost use Rattle.report_text.specs.Text.{time_text, count_text, flag_text, letter_text, nanos_text, written_text};
 
 use arrayvec::ArrayVec;
 use ff_grain::Bintime;
@@ -9,6 +9,19 @@ use std::marker::Model;
 
 /// The most bytes of a line with its line end.
 const MOST: usize = 640;
+
+/// As many zeros as nanoseconds have digits.
+const ZEROS: &[u8] = b"000000000";
+
+// The zeros in front of so many digits that make them nine.
+#[tactic(auto, using(crate::proofs::Digits::dropped_zeros))]
+fn leading_zeros(digits: usize) -> &'static [u8]
+    requires { digits ≤ 9 }
+    ensures zeros { result.now ≡ replicate (9 - digits) 48 }
+    ensures nine { length result.now + digits ≡ 9 }
+{
+    &ZEROS[digits..]
+}
 
 /// The bytes of a line so far.
 #[derive(Drop)]
@@ -95,6 +108,32 @@ impl LineText {
             self.word(word);
             self.number(n);
         }
+    }
+
+    /// Adds nanoseconds below 10^9, in nine digits with leading zeros.
+    #[tactic(auto, using(crate::proofs::Digits::few_digits))]
+    pub fn nanos(&mut self, nanos: u32)
+        requires room { length self.old + 9 ≤ 640 }
+        requires below { nanos < 1000000000 }
+        ensures text { self.new ≡ self.old ++ nanos_text nanos }
+        ensures nine { length self.new ≡ length self.old + 9 }
+    {
+        let mut buffer = Buffer::new();
+        let digits = buffer.format(nanos).as_bytes();
+        self.word(leading_zeros(digits.len()));
+        self.word(digits);
+    }
+
+    /// Adds a time as a stamp file has it: its seconds, a point, and the nanoseconds below 10^9.
+    pub fn written(&mut self, t: (u64, u32))
+        requires room { length self.old + 50 ≤ 640 }
+        requires below { t.1 < 1000000000 }
+        ensures text { self.new ≡ self.old ++ written_text t }
+        ensures short { length self.new ≤ length self.old + 30 }
+    {
+        self.number(t.0);
+        self.word(b".");
+        self.nanos(t.1);
     }
 
     pub fn bytes(&self) -> &[u8]
