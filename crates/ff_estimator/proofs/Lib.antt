@@ -4,3 +4,4 @@ pub mod MeanSums
 pub mod FirstMeans
 pub mod Bounds
 pub mod Newest
+pub mod WholeRuns

@@ -23,6 +23,11 @@ pub record StandsFor (k : Kept) (freq : ℕ) (all : List Stamp) : Type 0 where
   pub window : windows.StandsFor k.window freq all
   pub taken : k.taken ≡ taken_before freq all (length all)
 
+-- the credit of a daemon, that of its window: the steps that it may still take beside twelve for each
+-- stamp that it is fed
+abbrev pub credit : Kept → ℕ
+credit k = windows.credit k.window
+
 -- the rates at the newest stamp, by the window
 pub record AreRates (w : windows.Kept) (rates : Rates) : Type 0 where
   pub global : rates.global ≡ rate_by w.freq (pair_of 1024 w.stamps)

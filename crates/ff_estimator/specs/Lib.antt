@@ -4,3 +4,4 @@ pub mod Means
 pub mod Choices
 pub mod Estimates
 pub mod Daemons
+pub mod Runs

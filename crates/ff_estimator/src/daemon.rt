@@ -1,11 +1,13 @@
 // The daemon.
-ghost use Rattle.std.specs.Prelude.{◌≡◌, ◌<◌, ◌≤◌, ◌-◌, ◌+◌, ◌^◌, ℕ, List, [], ◌∷◌, ◌++◌, length, Ok, IfOk, IfSome, pos, ◌≤ℤ◌, ◌<ℤ◌};
+ghost use Rattle.std.specs.Prelude.{◌≡◌, ◌<◌, ◌≤◌, ◌-◌, ◌+◌, ◌*◌, ◌^◌, ℕ, List, [], ◌∷◌, ◌++◌, length, Ok, IfOk, IfSome, pos, ◌≤ℤ◌, ◌<ℤ◌};
+ghost use Rattle.std.specs.List.{All};
 ghost use Rattle.stamp_text.specs.Accepted.{IsTimed, accept_of, accepted_with, last_of};
 ghost use Rattle.stamp_text.specs.declared.accepts.Refused.{Refused};
 ghost use Rattle.stamp_text.specs.declared.lines.Stamp.{Stamp};
 ghost use Rattle.rate_pair.specs.Rates.{IsRate};
 ghost use Rattle.ff_estimator.specs.Estimates.{full_at, fed_of};
-ghost use Rattle.ff_estimator.specs.Daemons.{StandsFor, IsBounded, count_of, mean_kept, taken_kept};
+ghost use Rattle.ff_estimator.specs.Daemons.{StandsFor, IsBounded, count_of, mean_kept, taken_kept, credit};
+ghost use Rattle.ff_estimator.specs.Runs.{Does, accepted_all};
 
 use crate::choices::{Taken, chosen, predicted_by};
 use crate::fulls::{Fed, Full, full_of};
@@ -17,6 +19,8 @@ use rtt_window::{Base, Window};
 use stamp_text::{Refused, Stamp, accept};
 use std::alloc::Global;
 use std::marker::Model;
+use std::sync::ledger::Ledger;
+use step_count::Steps;
 
 /// The daemon: it keeps the last accepted stamps and what was taken at the newest one.
 #[derive(Drop)]
@@ -125,7 +129,8 @@ impl Daemon {
     pub fn new(alloc: Global, freq: u64) -> Result<Daemon, NoMemory>
         requires low { 1000000 ≤ freq }
         requires high { freq ≤ 16000000000 }
-        ensures { IfOk result (λ d. StandsFor d freq []) }
+        ensures stands { IfOk result (λ d. StandsFor d freq []) }
+        ensures credit { IfOk result (λ d. credit d ≡ 0) }
     {
         let taken = Taken {
             time: 0,
@@ -149,14 +154,15 @@ impl Daemon {
     }
 
     // The estimate at a stamp that is accepted behind the newest one.
-    fn estimate(&mut self, s: Stamp) -> Full
+    fn estimate<L: Ledger>(&mut self, s: Stamp, steps: &mut Steps<L>) -> Full
         requires timed { IsTimed s }
         requires accepted { accept_of (last_of self.old.window.stamps) s self.old.window.freq ≡ Ok tt }
         ensures stands { (freq : ℕ) (all : List Stamp) → StandsFor self.old freq all → StandsFor self.new freq (all ++ s ∷ []) }
         ensures value { (freq : ℕ) (all : List Stamp) → StandsFor self.old freq all → result ≡ full_at freq (all ++ s ∷ []) (length all) }
+        ensures does { Does self.old (record { before = steps.old; after = steps.new }) self.new }
     {
         let before = newest_count(&self.window);
-        let base = self.window.add(s);
+        let base = self.window.add(s, steps);
         let rates = rates_at(&self.window, self.freq);
         self.taken = taken_at(
             &self.window,
@@ -176,15 +182,34 @@ impl Daemon {
     ///
     /// Its counters are below 2^62, and its times from 0 to below 2^32 s. After the algorithm of
     /// Veitch, Ridoux and Korada.
-    pub fn feed(&mut self, s: Stamp) -> Fed
+    ///
+    /// A step is one comparison of two round trips. The steps and the credit together rise by twelve
+    /// at most, so in the long run a stamp takes twelve steps. One that is refused takes none.
+    pub fn feed<L: Ledger>(&mut self, s: Stamp, steps: &mut Steps<L>) -> Fed
         requires { IsTimed s }
         ensures answer { (freq : ℕ) (all : List Stamp) → StandsFor self.old freq all → result ≡ fed_of freq all s }
         ensures stands { (freq : ℕ) (all : List Stamp) → StandsFor self.old freq all → StandsFor self.new freq (accepted_with all s (accept_of (last_of all) s freq)) }
         ensures refused { (why : Refused) → result ≡ Fed.Refused why → self.new ≡ self.old }
+        ensures uncounted { (why : Refused) → result ≡ Fed.Refused why → steps.new ≡ steps.old }
+        ensures does { Does self.old (record { before = steps.old; after = steps.new }) self.new }
     {
         match self.test(&s) {
-            Ok(()) => Fed::Estimate(self.estimate(s)),
+            Ok(()) => Fed::Estimate(self.estimate(s, steps)),
             Err(why) => Fed::Refused(why),
+        }
+    }
+
+    /// Takes these stamps one after another, for what it keeps of them alone.
+    ///
+    /// On a new daemon n stamps take 12n steps at most.
+    pub fn feed_all<L: Ledger>(&mut self, stamps: &[Stamp], steps: &mut Steps<L>)
+        requires { All IsTimed stamps.now }
+        ensures stands { (freq : ℕ) (all : List Stamp) → StandsFor self.old freq all → StandsFor self.new freq (accepted_all freq all stamps.now) }
+        ensures credit { steps.new + credit self.new ≤ steps.old + credit self.old + 12 * length stamps.now }
+        ensures new { (freq : ℕ) → StandsFor self.old freq [] → steps.new ≤ steps.old + 12 * length stamps.now }
+    {
+        for s in stamps {
+            self.feed(*s, steps);
         }
     }
 }

@@ -4,6 +4,7 @@
 mod choices;
 mod daemon;
 mod fulls;
+mod laws;
 mod means;
 mod rates;
 #[cfg(test)]
@@ -12,3 +13,4 @@ mod tests;
 pub use choices::first_has_mean;
 pub use daemon::Daemon;
 pub use fulls::{Fed, Full, estimates_stay};
+pub use laws::a_stamp_takes_twelve_steps;

@@ -1,4 +1,6 @@
 // Estimates at two stamps, by the rules of the daemon, and refusals between them.
+ghost use Rattle.std.specs.Prelude.{◌≡◌, ◌<◌};
+ghost use Rattle.std.specs.List.{All};
 ghost use Rattle.stamp_text.specs.Accepted.{IsTimed};
 
 use crate::{Daemon, Fed, Full};
@@ -6,7 +8,10 @@ use ff_grain::{Bintime, from_nanos};
 use ff_hands::{Estimate, Marks};
 use rate_pair::Rate;
 use stamp_text::{Refused, Stamp};
+use std::marker::Brand;
+use std::sync::ledger::{Blank, Ledger};
 use std::test::Fail;
+use step_count::Steps;
 
 const FREQ: u64 = 1_000_000_000;
 
@@ -40,6 +45,27 @@ fn stamp_of(columns: Columns) -> Stamp
         te: from_nanos(u64::from(te.0), te.1.min(999_999_999)),
         tf: tf.min(MOST),
     }
+}
+
+// Feeds some stamps for what is kept of them, and then one more, under a blank.
+fn feed_under<L: Ledger>(daemon: &mut Daemon, before: &[Stamp], s: Stamp, blank: Blank) -> Fed
+    requires before { All IsTimed before.now }
+    requires timed { IsTimed s }
+    requires name { blank.name ≡ L.name }
+    requires parts { blank.parts ≡ L.parts }
+    requires some { 0 < blank.parts }
+{
+    let mut steps = Steps::<L>::new(blank);
+    daemon.feed_all(before, &mut steps);
+    daemon.feed(s, &mut steps)
+}
+
+// The same, for who counts nothing.
+fn feed_behind(daemon: &mut Daemon, before: &[Stamp], s: Stamp) -> Fed
+    requires before { All IsTimed before.now }
+    requires timed { IsTimed s }
+{
+    feed_under::<Brand>(daemon, before, s, Blank::new(1))
 }
 
 // What is said while the daemon warms up, without a flag.
@@ -139,13 +165,19 @@ fn refused_stamps_leave_no_trace(rt: HostRuntime) -> Result<(), Fail> {
     ];
     let mut daemon = Daemon::new(rt.alloc(), FREQ)?;
     for (columns, why) in early {
-        assert_eq!(rt; daemon.feed(stamp_of(columns)), Fed::Refused(why));
+        assert_eq!(rt;
+            feed_behind(&mut daemon, &[], stamp_of(columns)),
+            Fed::Refused(why)
+        );
     }
-    assert_eq!(rt; daemon.feed(stamp_of(FIRST)), first());
+    assert_eq!(rt; feed_behind(&mut daemon, &[], stamp_of(FIRST)), first());
     for (columns, why) in late {
-        assert_eq!(rt; daemon.feed(stamp_of(columns)), Fed::Refused(why));
+        assert_eq!(rt;
+            feed_behind(&mut daemon, &[], stamp_of(columns)),
+            Fed::Refused(why)
+        );
     }
-    assert_eq!(rt; daemon.feed(stamp_of(SECOND)), second());
+    assert_eq!(rt; feed_behind(&mut daemon, &[], stamp_of(SECOND)), second());
     Ok(())
 }
 
@@ -162,8 +194,23 @@ fn stamps_at_the_limits_are_accepted(rt: HostRuntime) -> Result<(), Fail> {
     ];
     for columns in rows {
         let mut daemon = Daemon::new(rt.alloc(), FREQ)?;
-        let accepted = matches!(daemon.feed(stamp_of(columns)), Fed::Estimate(_));
+        let accepted = matches!(
+            feed_behind(&mut daemon, &[], stamp_of(columns)),
+            Fed::Estimate(_)
+        );
         assert_eq!(rt; accepted, true);
     }
+    Ok(())
+}
+
+#[test]
+fn stamps_behind_others(rt: HostRuntime) -> Result<(), Fail> {
+    let mut daemon = Daemon::new(rt.alloc(), FREQ)?;
+    // The second of them is refused.
+    let before = [stamp_of(FIRST), stamp_of(FIRST)];
+    assert_eq!(rt;
+        feed_behind(&mut daemon, &before, stamp_of(SECOND)),
+        second()
+    );
     Ok(())
 }

@@ -1,12 +1,12 @@
 -- The first stamp of least round trip.
-use Rattle.std.proofs.Common.{◌≡◌, ℕ, ◌+◌, ◌-◌, ◌<◌, ◌≤◌, ◌==◌, List, [], ◌∷◌, ◌++◌, map, fold, min, take, drop, find, slice_get, slice_range, slice_index_or, false, Some, None, refl, sym, ap, ◌∙◌, subst, arith}
+use Rattle.std.proofs.Common.{◌≡◌, ℕ, ◌+◌, ◌-◌, ◌<◌, ◌≤◌, ◌==◌, Bool, List, [], ◌∷◌, ◌++◌, length, map, fold, min, take, drop, find, get_or, slice_get, slice_range, slice_index_or, false, Some, None, refl, sym, ap, ◌∙◌, subst, arith}
 use Rattle.std.specs.List.{All, position_or_len}
 use Rattle.std.specs.Option.{option_or}
 use Rattle.std.proofs.lemmas.Bool.Decides.{nat_tests}
-use Rattle.std.proofs.lemmas.List.{length-map, map_push}
+use Rattle.std.proofs.lemmas.List.{length-map, map_push, get_or-map}
 use Rattle.std.proofs.lemmas.List.Elements.{All-nil, All-cons, All-head, All-tail}
 use Rattle.std.proofs.lemmas.List.Folds.{find_at, find-append}
-use Rattle.std.proofs.lemmas.List.Sums.{fails_before_first, passes_at_first}
+use Rattle.std.proofs.lemmas.List.Sums.{fails_before_first, passes_at_first, position_or_len_is}
 use Rattle.std.proofs.lemmas.Option.{slice_get_within, get_or_from_slice_get}
 use Rattle.stamp_text.specs.Accepted.{trip}
 use Rattle.stamp_text.specs.declared.lines.Stamp.{Stamp}
@@ -55,6 +55,41 @@ first_least-is all s e =
       least = λ k d here. omega (arith, at.is, least-all all k d here);
       first = λ k d before. grind (arith, nat_tests, least-all all k d (omega arith), at.none k d before);
     }
+
+-- what is not above any of the numbers is not above the least of them
+fold-min-ge : (b m : ℕ) (ns : List ℕ) → b ≤ m → All (λ n. b ≤ n) ns → b ≤ fold min m ns
+fold-min-ge b m [] head tail = head
+fold-min-ge b m (n ∷ ns) head tail =
+    let second : b ≤ n = All-head (λ n. b ≤ n) n ns tail in
+    fold-min-ge b (min m n) ns (omega arith) (All-tail (λ n. b ≤ n) n ns tail)
+
+least-ge : (b : ℕ) (all : List Stamp) → 0 < length all → All (λ s. b ≤ trip s) all → b ≤ least_of (map trip all)
+least-ge b [] some are = absurd (omega arith)
+least-ge b (s ∷ ss) some are = fold-min-ge b (trip s) (map trip ss) (All-head (λ s. b ≤ trip s) s ss are) (λ k d here.
+    subst (λ n. b ≤ n) (sym (get_or-map trip ss k s d (omega (arith, length-map ss trip)))) (All-tail (λ s. b ≤ trip s) s ss are k s (omega (arith, length-map ss trip))))
+
+-- the first of least has the least round trip
+least-is : (all : List Stamp) (s : Stamp) → IsFirstLeast all s → least_of (map trip all) ≡ trip s
+least-is all s is =
+    let within = slice_get_within all is.place s is.there in
+    let here : get_or all is.place s ≡ s = get_or_from_slice_get all is.place s s is.there in
+    omega (arith, least-ge (trip s) all (omega arith) is.least, subst (λ t. least_of (map trip all) ≤ trip t) here (least-all all is.place s within))
+
+-- and the first of least is found
+pub first_least-found : (all : List Stamp) (s : Stamp) → IsFirstLeast all s → first_least all ≡ Some s
+unfolding first_least
+first_least-found all s is =
+    let least = least-is all s is in
+    let within = slice_get_within all is.place s is.there in
+    let here : get_or all is.place s ≡ s = get_or_from_slice_get all is.place s s is.there in
+    let p : Stamp → Bool = λ t. trip t == least_of (map trip all) in
+    let first : position_or_len p all ≡ is.place =
+    position_or_len_is p all is.place s (omega arith) (λ k before. let after = is.first k s before in grind (arith, nat_tests)) (λ _. grind (arith, nat_tests)) in
+    find_at p all ∙ ap (slice_get all) first ∙ is.there
+
+-- its round trip is the least of all
+pub least-by-first : (all : List Stamp) (s : Stamp) → first_least all ≡ Some s → trip s ≡ least_of (map trip all)
+least-by-first all s e = sym (least-is all s (first_least-is all s e))
 
 -- where all round trips are greater, none is found
 none-of-greater : (m : ℕ) (all : List Stamp) → All (λ s. m < trip s) all → find (λ s. trip s == m) all ≡ None

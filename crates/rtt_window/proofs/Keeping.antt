@@ -1,14 +1,19 @@
 -- A window with one more stamp.
 use Rattle.std.proofs.Common.{◌≡◌, ℕ, ◌+◌, ◌-◌, ◌<◌, ◌≤◌, List, [], ◌∷◌, ◌++◌, length, drop, map, max, min, get_or, slice_range, Some, IfSome, Ok, inl, inr, refl, sym, ap, ap₂, ◌∙◌, subst, arith, length-drop, suc}
 use Rattle.std.proofs.lemmas.Grind.{common_steps}
-use Rattle.std.proofs.lemmas.List.{drop-drop, take_all, drop-append-le, length_push, get_or_push, get_or-drop}
+use Rattle.std.proofs.lemmas.List.{drop-drop, drop-map, take_all, take_rest, drop-append-le, length-map, length_push, map_push, get_or_push, get_or-drop}
 use Rattle.std.proofs.lemmas.Option.{slice_get_cases, slice_get-get_or}
 use Rattle.circular_buffer.specs.Buffer.{buffer, keep_last}
+use Rattle.min_lists.specs.declared.which.Which.{Which}
+use Rattle.min_lists.specs.declared.which.Which.TheVariants as which
+use Rattle.min_lists.specs.Lists as lists
+use Rattle.min_lists.specs.Lists.{Span, last_trips}
 use Rattle.stamp_text.specs.Accepted.{accept_of, IsTimed, last_of, trip}
 use Rattle.stamp_text.specs.declared.lines.Stamp.{Stamp}
 use Rattle.stamp_text.proofs.AcceptedLaws.{sound-by, follows-by, accepted-push, accepted-drop}
 use Rattle.rtt_window.specs.Bases.{least_of, least_trip, judged, base_from, start_before, base_at}
-use Rattle.rtt_window.specs.Windows.{Kept, StandsFor, kept_with, least_kept, Judges, Holds}
+use Rattle.rtt_window.specs.Spans.{span_of, listed}
+use Rattle.rtt_window.specs.Windows.{Kept, StandsFor, kept_with, least_kept, stamps_in, Judges, Holds}
 use Rattle.rtt_window.specs.declared.bases.Base.{Base}
 use Rattle.rtt_window.proofs.Prefixes.{start_before-le, start_before-append}
 
@@ -39,7 +44,7 @@ last-push xs s =
     ∙ ap (λ s. Some s) (get_or_push (drop d xs) s s (length (drop d xs ++ s ∷ []) - 1) (omega (arith, length_push (drop d xs) s)))
 
 -- there are more counts than stamps
-count-below : (xs : List Stamp) (count freq : ℕ) (s : Stamp) → length xs ≡ min 1024 count → IfSome (last_of xs) (λ p. count ≤ p.tf) → accept_of (last_of xs) s freq ≡ Ok tt → count < s.tf
+pub count-below : (xs : List Stamp) (count freq : ℕ) (s : Stamp) → length xs ≡ min 1024 count → IfSome (last_of xs) (λ p. count ≤ p.tf) → accept_of (last_of xs) s freq ≡ Ok tt → count < s.tf
 count-below xs count freq s few counted e =
     let sound = sound-by freq (last_of xs) s e in
     elim (slice_get_cases xs (length xs - 1)).1 as (λ _. count < s.tf) [
@@ -50,14 +55,22 @@ count-below xs count freq s few counted e =
       | inr none ↦ omega (arith, sound.counters, none.0)
     ]
 
-pub holds-push : (xs : List Stamp) (count start start' freq : ℕ) (s : Stamp) → Holds (buffer xs 1024) count start freq → IsTimed s → accept_of (last_of xs) s freq ≡ Ok tt → start' ≤ count → Holds (buffer (keep_last 1024 (xs ++ s ∷ [])) 1024) (count + 1) start' freq
-holds-push xs count start start' freq s holds timed e started =
+-- the round trips of the last stamps, with one more
+trips-push : (xs : List Stamp) (s : Stamp) → last_trips (map trip xs ++ trip s ∷ []) ≡ map trip (keep_last 1024 (xs ++ s ∷ []))
+trips-push xs s =
+    let all : List Stamp = xs ++ s ∷ [] in
+    ap last_trips (sym (map_push trip xs s)) ∙ ap (λ n. drop (n - 1024) (map trip all)) (length-map all trip) ∙ drop-map trip (length all - 1024) all
+
+pub holds-push : (xs : List Stamp) (ls ls' : lists.Kept) (count start freq : ℕ) (s : Stamp) → Holds (buffer xs 1024) ls count start freq → IsTimed s → accept_of (last_of xs) s freq ≡ Ok tt
+    → ls' ≡ listed (last_trips (ls.trips ++ trip s ∷ [])) (count + 1) start → Holds (buffer (keep_last 1024 (xs ++ s ∷ [])) 1024) ls' (count + 1) start freq
+holds-push xs ls ls' count start freq s holds timed e slid =
     let all : List Stamp = xs ++ s ∷ [] in
     let below = count-below xs count freq s holds.few holds.counted e in
     record {
       capacity = refl;
       few = omega (arith, length-drop (length all - 1024) all, length_push xs s, holds.few);
-      started = omega arith;
+      listed = slid ∙ ap (λ ts. listed ts (count + 1) start) (ap (λ (ls : lists.Kept). last_trips (ls.trips ++ trip s ∷ [])) holds.listed ∙ trips-push xs s);
+      started = omega (arith, holds.started);
       low = holds.low;
       high = holds.high;
       accepted = accepted-drop freq (length all - 1024) all (accepted-push freq xs s holds.accepted timed e);
@@ -73,15 +86,28 @@ least-push k freq all s from was kept here =
     ap₂ (λ n (xs : List Stamp). least_of (map trip (drop (from - (n + 1 - length xs)) xs))) was.count (stamps-push k freq all s was)
     ∙ least_trip-kept (all ++ s ∷ []) from (length all) (length_push all s) kept here
 
+-- a window up to the newest stamp is what is kept from its start on
+least-since : (k : Kept) (which : Which) (from : ℕ) → length k.stamps ≡ min 1024 k.count → span_of k.count k.start which ≡ record { from = from; to = k.count } → least_of (map trip (stamps_in k which)) ≡ least_kept k from
+least-since k which from few is =
+    let gone : ℕ = k.count - length k.stamps in
+    let all : k.count - gone ≡ length k.stamps = omega arith in
+    ap (λ (w : Span). least_of (map trip (slice_range k.stamps (w.from - gone) (w.to - gone)))) is
+    ∙ ap (λ to. least_of (map trip (slice_range k.stamps (from - gone) to))) all
+    ∙ ap (λ xs. least_of (map trip xs)) (take_rest k.stamps (from - gone))
+
 -- what is said of a stamp after it is kept
-pub judges-after : (k k' : Kept) (s : Stamp) (count since late least recent : ℕ) (answer : Base) → k' ≡ kept_with k s → count ≡ k.count → since ≡ max k'.start (count - 1023) → late ≡ count - 31 → least ≡ least_kept k' since → recent ≡ least_kept k' late → answer ≡ judged k'.freq k'.start count least recent → Judges k s answer
-judges-after k k' s count since late least recent answer after counted from_since from_late is_least is_recent is = record {
-  least = least;
-  recent = recent;
-  since = is_least ∙ ap₂ least_kept after (from_since ∙ ap₂ (λ (k : Kept) n. max k.start (n - 1023)) after counted);
-  late = is_recent ∙ ap₂ least_kept after (from_late ∙ ap (λ n. n - 31) counted);
-  by = is ∙ ap₂ (λ (k : Kept) n. judged k.freq k.start n least recent) after counted;
-}
+pub judges-after : (k k' : Kept) (s : Stamp) (count least recent : ℕ) (answer : Base) → k' ≡ kept_with k s → count ≡ k.count → length k'.stamps ≡ min 1024 k'.count
+    → least ≡ least_of (map trip (stamps_in k' which.Base)) → recent ≡ least_of (map trip (stamps_in k' which.Recent)) → answer ≡ judged k'.freq k'.start count least recent → Judges k s answer
+judges-after k k' s count least recent answer after counted few is_least is_recent is =
+    let since : k.count + 1 - 1024 ≡ k.count - 1023 = omega arith in
+    let late : k.count + 1 - 32 ≡ k.count - 31 = omega arith in
+    record {
+      least = least;
+      recent = recent;
+      since = is_least ∙ least-since k' which.Base (max k'.start (k'.count - 1024)) few refl ∙ ap (λ (k : Kept). least_kept k (max k.start (k.count - 1024))) after ∙ ap (λ n. least_kept (kept_with k s) (max k.start n)) since;
+      late = is_recent ∙ least-since k' which.Recent (k'.count - 32) few refl ∙ ap (λ (k : Kept). least_kept k (k.count - 32)) after ∙ ap (least_kept (kept_with k s)) late;
+      by = is ∙ ap₂ (λ (k : Kept) n. judged k.freq k.start n least recent) after counted;
+    }
 
 -- what is said of one more stamp is what the definition says of it behind all
 pub base-push : (k : Kept) (freq : ℕ) (all : List Stamp) (s : Stamp) (answer : Base) → StandsFor k freq all → Judges k s answer → answer ≡ base_at freq (all ++ s ∷ []) (length all)

@@ -1,5 +1,6 @@
 pub mod Leasts
 pub mod Prefixes
-pub mod Keeping
 pub mod FirstLeasts
+pub mod Listed
+pub mod Keeping
 pub mod Pairing

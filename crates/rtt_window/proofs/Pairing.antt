@@ -5,10 +5,14 @@ use Rattle.std.proofs.lemmas.Bool.Decides.{nat_tests}
 use Rattle.std.proofs.lemmas.List.{drop-drop, take_rest, get_or-take, get_or-drop}
 use Rattle.std.proofs.lemmas.Option.{slice_get_within, get_or_from_slice_get, some_pair_parts}
 use Rattle.circular_buffer.specs.Buffer.{keep_last}
+use Rattle.min_lists.specs.declared.which.Which.{Which}
+use Rattle.min_lists.specs.Lists.{Span}
 use Rattle.stamp_text.specs.Accepted.{IsTimed, IsSound, Follows, AreAccepted}
 use Rattle.stamp_text.specs.declared.lines.Stamp.{Stamp}
 use Rattle.stamp_text.proofs.AcceptedLaws.{accepted-drop}
 use Rattle.rtt_window.specs.Pairs.{first_least, quarter, pair_among, pair_of, ArePair}
+use Rattle.rtt_window.specs.Spans.{first_quarter, last_quarter, span_of}
+use Rattle.rtt_window.specs.Windows.{Kept, stamps_in}
 use Rattle.rtt_window.proofs.FirstLeasts.{first_least-is}
 
 -- the last ones of the last ones are the last ones
@@ -41,6 +45,22 @@ pair_of-some reach end near q xs j k is_end many two is_near is_q from to =
     let right : keep_last (quarter n) (drop d xs) ≡ slice_range xs (end - q) end =
     drop-drop (n - quarter n) d xs ∙ ap (λ i. drop i xs) (omega arith) ∙ sym (take_rest xs (end - q)) ∙ ap (slice_range xs (end - q)) (sym is_end) in
     among-some (drop d xs) j k (omega arith) (ap first_least left ∙ from) (ap first_least right ∙ to)
+
+-- the same, by the windows of the quarters
+pub pair_of-spans : (most : ℕ) (k : Kept) (old new : Which) (first last : Stamp) → 2 ≤ most → most ≤ 1024 → length k.stamps ≡ min 1024 k.count → 2 ≤ length k.stamps
+    → span_of k.count k.start old ≡ first_quarter most k.count → span_of k.count k.start new ≡ last_quarter most k.count
+    → first_least (stamps_in k old) ≡ Some first → first_least (stamps_in k new) ≡ Some last → pair_of most k.stamps ≡ Some (first, last)
+pair_of-spans most k old new first last two most_of few some is_old is_new is_first is_last =
+    let xs : List Stamp = k.stamps in
+    let gone : ℕ = k.count - length xs in
+    let d : ℕ = length xs - most in
+    let n : ℕ = length (drop d xs) in
+    let range : Span → List Stamp = λ w. slice_range xs (w.from - gone) (w.to - gone) in
+    let left : stamps_in k old ≡ take (quarter n) (drop d xs) = ap range is_old ∙ ap₂ (λ q i. take q (drop i xs)) (omega (arith, length-drop d xs)) (omega (arith, length-drop d xs)) in
+    let from : k.count - quarter (min most k.count) - gone ≡ d + (n - quarter n) = omega (arith, length-drop d xs) in
+    let to : k.count - gone ≡ length xs = omega arith in
+    let right : stamps_in k new ≡ keep_last (quarter n) (drop d xs) = ap range is_new ∙ ap₂ (slice_range xs) from to ∙ take_rest xs (d + (n - quarter n)) ∙ sym (drop-drop (n - quarter n) d xs) in
+    among-some (drop d xs) first last (omega (arith, length-drop d xs)) (ap first_least (sym left) ∙ is_first) (ap first_least (sym right) ∙ is_last)
 
 zip-some : (x y : Option Stamp) (j k : Stamp) → option_zip x y ≡ Some (j, k) → (x ≡ Some j) × (y ≡ Some k)
 zip-some None y j k e = absurd (cc)

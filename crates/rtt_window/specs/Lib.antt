@@ -1,3 +1,4 @@
 pub mod Bases
 pub mod Pairs
+pub mod Spans
 pub mod Windows

@@ -1,10 +1,13 @@
 -- What a window keeps, and which stamps that stands for.
-use Rattle.std.specs.Prelude.{◌≡◌, ℕ, ◌+◌, ◌-◌, ◌≤◌, min, max, List, [], ◌∷◌, ◌++◌, length, map, drop, IfSome}
+use Rattle.std.specs.Prelude.{◌≡◌, ℕ, ◌+◌, ◌-◌, ◌<◌, ◌≤◌, min, max, List, [], ◌∷◌, ◌++◌, length, map, drop, slice_range, IfSome}
 use Rattle.circular_buffer.specs.Buffer.{Buffer, keep_last}
+use Rattle.min_lists.specs.declared.which.Which.{Which}
+use Rattle.min_lists.specs.Lists as lists
 use Rattle.stamp_text.specs.Accepted.{AreAccepted, last_of, trip}
 use Rattle.stamp_text.specs.declared.lines.Stamp.{Stamp}
 use Rattle.rtt_window.specs.Bases.{least_of, judged, start_before}
 use Rattle.rtt_window.specs.declared.bases.Base.{Base}
+use Rattle.rtt_window.specs.Spans.{span_of, listed}
 
 -- the last stamps, how many were added, where the level began, and the nominal frequency
 pub record Kept : Type 0 where
@@ -28,6 +31,19 @@ kept_with k s = record { stamps = keep_last 1024 (k.stamps ++ s ∷ []); count =
 abbrev pub least_kept : Kept → ℕ → ℕ
 least_kept k from = least_of (map trip (drop (from - (k.count - length k.stamps)) k.stamps))
 
+-- the kept stamps in one of the six windows
+abbrev pub stamps_in : Kept → Which → List Stamp
+stamps_in k which = slice_range k.stamps ((span_of k.count k.start which).from - (k.count - length k.stamps)) ((span_of k.count k.start which).to - (k.count - length k.stamps))
+
+-- it has a stamp
+abbrev pub HasStamp : Kept → Which → Type 0
+HasStamp k which = (span_of k.count k.start which).from < (span_of k.count k.start which).to
+
+-- the credit of a window, that of its lists: the steps that it may still take beside twelve for each
+-- stamp that is added
+unfoldable pub credit : Kept → ℕ
+credit k = lists.credit (listed (map trip k.stamps) k.count k.start)
+
 -- what is said of one more stamp, by what is kept
 pub record Judges (k : Kept) (s : Stamp) (answer : Base) : Type 0 where
   pub least : ℕ
@@ -38,9 +54,10 @@ pub record Judges (k : Kept) (s : Stamp) (answer : Base) : Type 0 where
 
 -- what every window has. Accepted stamps are at most as many as the counts up to the last reply, so
 -- their number needs no bound of its own.
-pub record Holds (stamps : Buffer Stamp) (count start freq : ℕ) : Type 0 where
+pub record Holds (stamps : Buffer Stamp) (lists : lists.Kept) (count start freq : ℕ) : Type 0 where
   pub capacity : stamps.capacity ≡ 1024
   pub few : length stamps.items ≡ min 1024 count
+  pub listed : lists ≡ listed (map trip stamps.items) count start
   pub started : start ≤ count
   pub low : 1000000 ≤ freq
   pub high : freq ≤ 16000000000

@@ -26,6 +26,7 @@ pub fn judged(freq: u64, start: u64, i: u64, least: u64, recent: u64) -> Base
     requires freq { freq ≤ 16000000000 }
     requires start { start ≤ i }
     ensures value { result ≡ judged freq start i least recent }
+    ensures later { start ≤ result.start }
     ensures started { result.start ≤ i }
 {
     if i - start >= RECENT && recent.saturating_sub(least) > 4 * trip_scale(freq) {

@@ -4,6 +4,7 @@
 
 mod bases;
 mod pairs;
+mod spans;
 #[cfg(test)]
 mod tests;
 mod window;

@@ -6,7 +6,10 @@ use crate::{Base, Window};
 use ff_grain::{Bintime, NoMemory};
 use stamp_text::{Stamp, accept};
 use std::alloc::Global;
+use std::marker::Brand;
+use std::sync::ledger::{Blank, Ledger};
 use std::test::Fail;
+use step_count::Steps;
 
 const FREQ: u64 = 1_000_000_000;
 
@@ -52,15 +55,47 @@ impl Trial {
     }
 
     // Adds a stamp, if it is accepted.
-    fn add(&mut self, s: Stamp) -> Option<Base>
+    fn add<L: Ledger>(&mut self, s: Stamp, steps: &mut Steps<L>) -> Option<Base>
         requires { IsTimed s }
     {
         let newest = self.newest();
         match accept(newest.as_ref(), &s, FREQ) {
-            Ok(()) => Some(self.window.add(s)),
+            Ok(()) => Some(self.window.add(s, steps)),
             Err(_) => None,
         }
     }
+
+    // The indices of the pair among the last stamps, as many as `reach`.
+    fn pair(&self, reach: u32) -> Option<(u64, u64)> {
+        match self.window.pair(reach.clamp(2, 1024)) {
+            Some((j, k)) => Some((j.ta / FREQ, k.ta / FREQ)),
+            None => None,
+        }
+    }
+}
+
+// Adds stamps with these round trips, and gives what is said of each, under a blank.
+fn add_under<L: Ledger>(
+    trial: &mut Trial,
+    trips: &[u32],
+    blank: Blank,
+    alloc: Global,
+) -> Result<Vec<Option<Base>>, NoMemory>
+    requires name { blank.name ≡ L.name }
+    requires parts { blank.parts ≡ L.parts }
+    requires some { 0 < blank.parts }
+{
+    let mut steps = Steps::<L>::new(blank);
+    let mut said = Vec::new(alloc);
+    for (i, trip) in (0..4096).zip(trips) {
+        said.push(trial.add(stamp_of(i, *trip), &mut steps))?;
+    }
+    Ok(said)
+}
+
+// The same, for who counts nothing.
+fn add_all(trial: &mut Trial, trips: &[u32], alloc: Global) -> Result<Vec<Option<Base>>, NoMemory> {
+    add_under::<Brand>(trial, trips, Blank::new(1), alloc)
 }
 
 #[test]
@@ -68,22 +103,25 @@ fn a_level_shifts(rt: HostRuntime) -> Result<(), Fail> {
     // The last 32 round trips, and what is said of the last stamp.
     let rows = [(340_001, 340_001, 33, true), (340_000, 100_000, 0, false)];
     for (trip, base, start, shifted) in rows {
-        let mut trial = Trial::new(rt.alloc())?;
-        for i in 0..64 {
-            let said = trial.add(stamp_of(i, if i < 33 { 100_000 } else { trip }));
-            let wanted = Base {
-                base: 100_000,
-                start: 0,
-                shifted: false,
-            };
-            assert_eq!(rt; said, Some(wanted), "at {i}");
+        let mut trips = vec![in rt.alloc(); 100_000; 33]?;
+        for _ in 0..32 {
+            trips.push(trip)?;
         }
+        let mut trial = Trial::new(rt.alloc())?;
+        let said = add_all(&mut trial, &trips, rt.alloc())?;
+        let before = Base {
+            base: 100_000,
+            start: 0,
+            shifted: false,
+        };
         let wanted = Base {
             base,
             start,
             shifted,
         };
-        assert_eq!(rt; trial.add(stamp_of(64, trip)), Some(wanted));
+        assert_eq!(rt; said.len(), 65);
+        assert_eq!(rt; said.iter().take(64).all(|b| *b == Some(before)), true);
+        assert_eq!(rt; said.iter().skip(64).all(|b| *b == Some(wanted)), true);
     }
     Ok(())
 }
@@ -92,9 +130,7 @@ fn a_level_shifts(rt: HostRuntime) -> Result<(), Fail> {
 fn the_last_stamps_are_kept(rt: HostRuntime) -> Result<(), Fail> {
     let mut trial = Trial::new(rt.alloc())?;
     assert_eq!(rt; trial.window.len(), 0);
-    for i in 0..1026 {
-        trial.add(stamp_of(i, 100_000));
-    }
+    add_all(&mut trial, &vec![in rt.alloc(); 100_000; 1026]?, rt.alloc())?;
     assert_eq!(rt; trial.window.len(), 1024);
     if trial.window.len() == 1024 {
         assert_eq!(rt; trial.window.stamp(0), stamp_of(2, 100_000));
@@ -107,24 +143,20 @@ fn the_last_stamps_are_kept(rt: HostRuntime) -> Result<(), Fail> {
 fn a_pair_has_the_first_of_least(rt: HostRuntime) -> Result<(), Fail> {
     let ties = [1, 1, 1, 1, 9, 7, 7, 1, 1, 1, 1, 1, 1, 8, 6, 6];
     // The round trips, how many stamps are looked at, and the indices of the pair.
-    let rows: [(&[u32], u32, Option<(u64, u64)>); 6] = [
+    let rows: [(&[u32], u32, Option<(u64, u64)>); 8] = [
         (&[], 1024, None),
         (&[5], 1024, None),
         (&[5, 5, 5, 5], 1024, Some((0, 3))),
         (&[5, 5, 5, 5, 5, 5, 5, 5], 1024, Some((0, 6))),
         (&ties, 1024, Some((0, 12))),
+        (&ties, 64, Some((0, 12))),
+        (&ties, 63, Some((0, 12))),
         (&ties, 12, Some((5, 14))),
     ];
     for (trips, reach, wanted) in rows {
         let mut trial = Trial::new(rt.alloc())?;
-        for (i, trip) in (0..1024).zip(trips) {
-            trial.add(stamp_of(i, *trip));
-        }
-        let pair = match trial.window.pair(reach.clamp(2, 1024)) {
-            Some((j, k)) => Some((j.ta / FREQ, k.ta / FREQ)),
-            None => None,
-        };
-        assert_eq!(rt; pair, wanted);
+        add_all(&mut trial, trips, rt.alloc())?;
+        assert_eq!(rt; trial.pair(reach), wanted);
     }
     Ok(())
 }
@@ -161,39 +193,92 @@ impl Plain {
     }
 
     // Four scales are 240,000 counts.
-    fn add(&mut self, trip: u32) -> Result<(u32, usize, bool), NoMemory> {
+    fn add(&mut self, trip: u32) -> Result<Base, NoMemory> {
         self.trips.push(trip)?;
         let last = self.trips.len() - 1;
         let least = self.least_from(last.saturating_sub(1023).max(self.start));
         let recent = self.least_from(last.saturating_sub(31));
-        if last.saturating_sub(self.start) >= 32 && u64::from(recent) > u64::from(least) + 240_000 {
-            self.start = last - 31;
-            return Ok((recent, self.start, true));
+        let shifted = last.saturating_sub(self.start) >= 32
+            && u64::from(recent) > u64::from(least) + 240_000;
+        if shifted {
+            self.start = last.saturating_sub(31);
         }
-        Ok((least, self.start, false))
+        Ok(Base {
+            base: u64::from(if shifted { recent } else { least }),
+            start: self.start as u64,
+            shifted,
+        })
+    }
+
+    // The first index of least round trip among so many from one on.
+    fn first_least(&self, from: usize, many: usize) -> u64 {
+        let mut least: Option<(u64, u32)> = None;
+        for (i, trip) in self.trips.iter().enumerate().skip(from).take(many) {
+            let is_less = match least {
+                Some((_, other)) => *trip < other,
+                None => true,
+            };
+            if is_less {
+                least = Some((i as u64, *trip));
+            }
+        }
+        match least {
+            Some((i, _)) => i,
+            None => 0,
+        }
+    }
+
+    // The indices of the pair among the last stamps, as many as `reach`.
+    fn pair(&self, reach: u32) -> Option<(u64, u64)> {
+        let all = self.trips.len();
+        let near = all.min(reach as usize);
+        let quarter = (near / 4).max(1);
+        if all < 2 {
+            return None;
+        }
+        let first = self.first_least(all - near, quarter);
+        Some((
+            first,
+            self.first_least(all.saturating_sub(quarter), quarter),
+        ))
     }
 }
 
-#[test]
-fn a_plain_computation_says_the_same(rt: HostRuntime) -> Result<(), Fail> {
-    let mut trial = Trial::new(rt.alloc())?;
+// How many levels shifted until the window was no longer what a plain computation says, and after how
+// many stamps that was.
+fn shifts_under<L: Ledger>(alloc: Global, blank: Blank) -> Result<(u64, u32), NoMemory>
+    requires name { blank.name ≡ L.name }
+    requires parts { blank.parts ≡ L.parts }
+    requires some { 0 < blank.parts }
+{
+    let mut steps = Steps::<L>::new(blank);
+    let mut trial = Trial::new(alloc)?;
     let mut plain = Plain {
-        trips: Vec::new(rt.alloc()),
+        trips: Vec::new(alloc),
         start: 0,
     };
     let mut shifts = 0u64;
     for i in 0..3600 {
         let trip = trip_of(i);
-        let (base, start, shifted) = plain.add(trip)?;
-        let wanted = Base {
-            base: u64::from(base),
-            start: start as u64,
-            shifted,
-        };
-        assert_eq!(rt; trial.add(stamp_of(i, trip)), Some(wanted), "at {i}");
-        shifts = shifts.saturating_add(u64::from(shifted));
+        let wanted = plain.add(trip)?;
+        let said = trial.add(stamp_of(i, trip), &mut steps);
+        let same_pairs = [1024, 64, 63]
+            .iter()
+            .all(|&reach| trial.pair(reach) == plain.pair(reach));
+        if said != Some(wanted) || !same_pairs {
+            return Ok((shifts, i));
+        }
+        shifts = shifts.saturating_add(u64::from(wanted.shifted));
     }
+    Ok((shifts, 3600))
+}
+
+#[test]
+fn a_plain_computation_says_the_same(rt: HostRuntime) -> Result<(), Fail> {
     // To 900,000, to 741,000 and to 1,000,000; by 240,000 it does not shift.
-    assert_eq!(rt; shifts, 3);
+    assert_eq!(rt;
+        shifts_under::<Brand>(rt.alloc(), Blank::new(1))?,
+        (3, 3600)
+    );
     Ok(())
 }

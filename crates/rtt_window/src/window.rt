@@ -1,27 +1,29 @@
 // The window of the latest accepted stamps.
-ghost use Rattle.std.specs.Prelude.{◌≡◌, ℕ, ◌+◌, ◌-◌, ◌<◌, ◌≤◌, ◌^◌, List, [], ◌∷◌, ◌++◌, length, map, drop, min, slice_get, slice_index, slice_range, ◌↔◌, IsNone, Some, IfSome, Ok, IfOk};
+ghost use Rattle.std.specs.Prelude.{◌≡◌, ℕ, ◌+◌, ◌-◌, ◌<◌, ◌≤◌, ◌^◌, List, [], ◌∷◌, ◌++◌, length, map, min, slice_get, slice_range, ◌↔◌, IsNone, Some, IfSome, Ok, IfOk};
 ghost use Rattle.std.specs.List.{All};
 ghost use Rattle.circular_buffer.specs.Buffer.{keep_last};
 ghost use Rattle.stamp_text.specs.Accepted.{IsTimed, IsSound, accept_of, last_of, trip};
 ghost use Rattle.stamp_text.specs.declared.lines.Stamp.{Stamp};
 ghost use Rattle.rtt_window.specs.Bases.{least_of, base_at};
 ghost use Rattle.rtt_window.specs.Pairs.{first_least, pair_of, ArePair};
-ghost use Rattle.rtt_window.specs.Windows.{StandsFor, Judges, kept_with, least_kept};
+ghost use Rattle.rtt_window.specs.Windows.{StandsFor, Judges, HasStamp, kept_with, stamps_in, credit};
 
 use crate::bases::{Base, RECENT, judged};
+use crate::spans::{WIDE, left_end, quarter, slide};
 use circular_buffer::HeapCircularBuffer;
 use ff_grain::NoMemory;
+use min_lists::{Lists, Which};
 use stamp_text::Stamp;
 use std::alloc::Global;
 use std::marker::Model;
-
-/// The most stamps that are kept.
-const ROOM: usize = 1024;
+use std::sync::ledger::Ledger;
+use step_count::Steps;
 
 /// The last stamps that were added, up to 1,024, and where the level of their round trips began.
 #[derive(Drop)]
 pub struct Window {
     stamps: HeapCircularBuffer<Stamp>,
+    lists: Lists,
     count: u64,
     start: u64,
     freq: u64,
@@ -34,7 +36,7 @@ impl Model for Window {
 
     ghost view = { λ w. record { stamps = w.stamps.items; count = w.count; start = w.start; freq = w.freq } };
 
-    ghost invariant = { λ w. Holds w.stamps w.count w.start w.freq };
+    ghost invariant = { λ w. Holds w.stamps w.lists w.count w.start w.freq };
 }
 
 // The kept stamp at a place.
@@ -56,29 +58,6 @@ fn trip(s: &Stamp) -> u64
     s.tf - s.ta
 }
 
-// The round trip of the kept stamp at a place.
-fn trip_at(stamps: &HeapCircularBuffer<Stamp>, i: usize) -> u64
-    requires place { i < length stamps.now.items }
-    requires forward { All (λ s. s.ta < s.tf) stamps.now.items }
-    ensures { result ≡ slice_index (map trip stamps.now.items) i }
-{
-    trip(&stamp_at(stamps, i))
-}
-
-// The least round trip of the kept stamps from a place on.
-fn least_trip(stamps: &HeapCircularBuffer<Stamp>, from: usize) -> u64
-    requires place { from < length stamps.now.items }
-    requires forward { All (λ s. s.ta < s.tf) stamps.now.items }
-    ensures { result ≡ least_of (map trip (drop from stamps.now.items)) }
-{
-    let end = stamps.len();
-    let mut least = trip_at(stamps, from);
-    for i in from + 1..end {
-        least = least.min(trip_at(stamps, i));
-    }
-    least
-}
-
 // The first of least round trip among the kept stamps from one place to before another.
 fn first_least(stamps: &HeapCircularBuffer<Stamp>, from: usize, to: usize) -> Stamp
     requires some { from < to }
@@ -96,19 +75,37 @@ fn first_least(stamps: &HeapCircularBuffer<Stamp>, from: usize, to: usize) -> St
     least
 }
 
+// The pair of stamps among the last `reach` of the kept ones, by a look at each.
+fn pair_among(stamps: &HeapCircularBuffer<Stamp>, reach: u32) -> (Stamp, Stamp)
+    requires two { 2 ≤ reach }
+    requires some { 2 ≤ length stamps.now.items }
+    requires forward { All (λ s. s.ta < s.tf) stamps.now.items }
+    ensures { pair_of reach stamps.now.items ≡ Some result }
+{
+    let end = stamps.len();
+    let near = end.min(reach as usize);
+    let quarter = quarter(near as u64) as usize;
+    let from = end - near;
+    let j = first_least(stamps, from, from + quarter);
+    let k = first_least(stamps, end - quarter, end);
+    (j, k)
+}
+
 impl Window {
     /// An empty window, for a counter with the nominal frequency `freq` in Hz, from 10^6 to 16*10^9.
     ///
     /// It takes all its memory here, and want of it is the only error.
-    #[tactic(auto, unfolding(crate::specs::Bases::start_before))]
+    #[tactic(auto, unfolding(crate::specs::Bases::start_before, crate::specs::Windows::credit))]
     pub fn new(alloc: Global, freq: u64) -> Result<Window, NoMemory>
         requires low { 1000000 ≤ freq }
         requires high { freq ≤ 16000000000 }
         ensures kept { IfOk result (λ w. w ≡ record { stamps = []; count = 0; start = 0; freq = freq }) }
         ensures stands { IfOk result (λ w. StandsFor w freq []) }
+        ensures credit { IfOk result (λ w. credit w ≡ 0) }
     {
         Ok(Window {
-            stamps: HeapCircularBuffer::with_capacity(alloc, ROOM)?,
+            stamps: HeapCircularBuffer::with_capacity(alloc, WIDE as usize)?,
+            lists: Lists::new(alloc)?,
             count: 0,
             start: 0,
             freq,
@@ -116,38 +113,81 @@ impl Window {
     }
 
     // Keeps one more stamp, in the place of the oldest where there is no room.
-    fn keep(&mut self, s: Stamp)
+    fn keep<L: Ledger>(&mut self, s: Stamp, steps: &mut Steps<L>)
         requires timed { IsTimed s }
         requires accepted { accept_of (last_of self.old.stamps) s self.old.freq ≡ Ok tt }
-        ensures { self.new ≡ kept_with self.old s }
+        ensures kept { self.new ≡ kept_with self.old s }
+        ensures steps { steps.old ≤ steps.new }
+        ensures credit { steps.new + credit self.new ≤ steps.old + credit self.old + 12 }
     {
+        slide(&mut self.lists, self.count, self.start, trip(&s), steps);
         self.stamps.push_back(s);
         self.count += 1;
     }
 
-    // The least round trip of the stamps with an index from `from` on, which is kept.
-    fn least_since(&self, from: u64) -> u64
-        requires kept { self.now.count - length self.now.stamps ≤ from }
-        requires here { from < self.now.count }
-        ensures { result ≡ least_kept self.now from }
+    // Lets the level begin at a later stamp.
+    fn begin(&mut self, start: u64)
+        requires later { self.old.start ≤ start }
+        requires here { start ≤ self.old.count }
+        ensures kept { self.new ≡ record self.old { start = start } }
+        ensures credit { credit self.new ≤ credit self.old }
+    {
+        self.lists
+            .cut(Which::Base, left_end(Which::Base, self.count, start));
+        self.start = start;
+    }
+
+    // The first stamp of least round trip in one of the six windows.
+    fn least_in(&self, which: Which) -> Stamp
+        requires some { HasStamp self.now which }
+        ensures value { first_least (stamps_in self.now which) ≡ Some result }
+        ensures forward { result.ta < result.tf }
     {
         let dropped = self.count - self.stamps.len() as u64;
-        least_trip(&self.stamps, (from - dropped) as usize)
+        match self.lists.least(which) {
+            Some(i) => stamp_at(&self.stamps, (i - dropped) as usize),
+            None => unreachable!(),
+        }
+    }
+
+    // Its round trip.
+    fn least_trip(&self, which: Which) -> u64
+        requires some { HasStamp self.now which }
+        ensures { result ≡ least_of (map trip (stamps_in self.now which)) }
+    {
+        trip(&self.least_in(which))
+    }
+
+    // The pair of stamps among the last `reach` of the kept ones. For the far and the near window the
+    // lists know it.
+    fn pair_within(&self, reach: u32) -> (Stamp, Stamp)
+        requires two { 2 ≤ reach }
+        requires some { 2 ≤ length self.now.stamps }
+        ensures { pair_of reach self.now.stamps ≡ Some result }
+    {
+        let stamps = &self.stamps;
+        match reach {
+            1024 => (self.least_in(Which::WideOld), self.least_in(Which::WideNew)),
+            64 => (self.least_in(Which::NearOld), self.least_in(Which::NearNew)),
+            _ => pair_among(stamps, reach),
+        }
     }
 
     // Keeps one more stamp, and judges it by what is kept.
-    fn judge(&mut self, s: Stamp) -> Base
+    fn judge<L: Ledger>(&mut self, s: Stamp, steps: &mut Steps<L>) -> Base
         requires timed { IsTimed s }
         requires accepted { accept_of (last_of self.old.stamps) s self.old.freq ≡ Ok tt }
         ensures judges { Judges self.old s result }
         ensures kept { self.new ≡ record (kept_with self.old s) { start = result.start } }
+        ensures steps { steps.old ≤ steps.new }
+        ensures credit { steps.new + credit self.new ≤ steps.old + credit self.old + 12 }
     {
         let i = self.count;
-        self.keep(s);
-        let least = self.least_since(self.start.max(i.saturating_sub(ROOM as u64 - 1)));
-        let recent = self.least_since(i.saturating_sub(RECENT - 1));
+        self.keep(s, steps);
+        let least = self.least_trip(Which::Base);
+        let recent = self.least_trip(Which::Recent);
         let answer = judged(self.freq, self.start, i, least, recent);
-        self.start = answer.start;
+        self.begin(answer.start);
         answer
     }
 
@@ -157,7 +197,10 @@ impl Window {
     /// Where 32 stamps or more stand behind its start, and even the least of the last 32 is more than
     /// four scales above it, the level has shifted, and begins anew with these 32. After the base
     /// and the level shifts of Veitch, Ridoux and Korada.
-    pub fn add(&mut self, s: Stamp) -> Base
+    ///
+    /// A step is one comparison of two round trips. The steps and the credit together rise by twelve
+    /// at most, so in the long run a stamp takes twelve steps.
+    pub fn add<L: Ledger>(&mut self, s: Stamp, steps: &mut Steps<L>) -> Base
         requires timed { IsTimed s }
         requires accepted { accept_of (last_of self.old.stamps) s self.old.freq ≡ Ok tt }
         ensures kept { self.new.stamps ≡ keep_last 1024 (self.old.stamps ++ s ∷ []) }
@@ -165,8 +208,10 @@ impl Window {
         ensures freq { self.new.freq ≡ self.old.freq }
         ensures stands { (freq : ℕ) (all : List Stamp) → StandsFor self.old freq all → StandsFor self.new freq (all ++ s ∷ []) }
         ensures base { (freq : ℕ) (all : List Stamp) → StandsFor self.old freq all → result ≡ base_at freq (all ++ s ∷ []) (length all) }
+        ensures steps { steps.old ≤ steps.new }
+        ensures credit { steps.new + credit self.new ≤ steps.old + credit self.old + 12 }
     {
-        self.judge(s)
+        self.judge(s, steps)
     }
 
     /// How many stamps were added, kept or not.
@@ -193,6 +238,7 @@ impl Window {
     {
         stamp_at(&self.stamps, i)
     }
+
     /// The pair of stamps that a rate is taken from, among the last `reach` of the kept stamps, from 2
     /// to 1,024.
     ///
@@ -200,6 +246,8 @@ impl Window {
     /// round trip in the last quarter. A quarter is rounded down, and has one stamp at least. `None`
     /// comes where fewer than two stamps are kept. After the near and the far window of Veitch, Ridoux
     /// and Korada.
+    ///
+    /// Among the last 1,024 and the last 64 it is known without a look at each stamp.
     pub fn pair(&self, reach: u32) -> Option<(Stamp, Stamp)>
         requires two { 2 ≤ reach }
         requires kept { reach ≤ 1024 }
@@ -208,15 +256,9 @@ impl Window {
         ensures none { IsNone result ↔ (length self.now.stamps < 2) }
         ensures pair { IfSome result (λ p. ArePair self.now.freq p.0 p.1) }
     {
-        let end = self.stamps.len();
-        if end < 2 {
+        if self.stamps.len() < 2 {
             return None;
         }
-        let near = end.min(reach as usize);
-        let quarter = (near / 4).max(1);
-        let from = end - near;
-        let j = first_least(&self.stamps, from, from + quarter);
-        let k = first_least(&self.stamps, end - quarter, end);
-        Some((j, k))
+        Some(self.pair_within(reach))
     }
 }
