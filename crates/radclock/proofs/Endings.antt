@@ -8,16 +8,17 @@ use Rattle.rad_io.specs.declared.Failed.{Failed}
 use Rattle.stamp_text.specs.Grammar.{given_of_file, fault_of_file}
 use Rattle.stamp_text.specs.declared.lines.LineFault.{LineFault}
 use Rattle.report_text.specs.declared.lines.Limit.TheVariants as limit
-use Rattle.radclock.specs.Inputs.{stamps_in, accepted_among, accepts_many, stop_by, first_stop, stop_of_file, freq_of_file, stamps_of_file}
+use Rattle.clock_words.specs.Lines.{command_in}
+use Rattle.clock_words.specs.declared.commands.Command.TheVariants as command
+use Rattle.clock_words.specs.declared.commands.Report.{Report}
+use Rattle.radclock.specs.Inputs.{stamps_in, takes_few, accepted_among, accepts_many, stop_by, first_stop, stop_of_file, freq_of_file, stamps_of_file}
 use Rattle.radclock.specs.Readings.{StopsInPiece, StopsAtEnd, Stops}
-use Rattle.radclock.specs.Runs.{Comes, no_line, stopped, read, Ends, WasDone, WasFree}
+use Rattle.radclock.specs.Runs.{Comes, no_line, no_memory, made, stopped, read, Ends, WasDone, reported, filed, WasFree}
 use Rattle.radclock.specs.Statuses.{status_of, status_by}
-use Rattle.radclock.specs.Words.{command_in, takes_few}
 use Rattle.radclock.specs.declared.inputs.Stop.{Stop}
 use Rattle.radclock.specs.declared.inputs.Stop.TheVariants as stop
 use Rattle.radclock.specs.declared.status.Status.{Status}
 use Rattle.radclock.specs.declared.status.Status.TheVariants as status
-use Rattle.radclock.specs.declared.words.Command.{Command}
 use Rattle.radclock.proofs.Accepting.{by_order, are-few}
 use Rattle.radclock.proofs.Stopping.{accepted-stop, many-stop, few-stop, stop_of_file-short, stop_of_file-long, stop_so_far-long, stop_of_file-stays}
 
@@ -51,24 +52,58 @@ stops-by-input limited left faults pull old new (stop.Read taken) all told free 
 stops-by-input limited left faults pull old new (stop.Fault f) all told free stops = inl (ap status_by (sym (in-piece-stops limited left faults pull old new (stop.Fault f) all told stops)))
 stops-by-input limited left faults pull old new (stop.Large l) all told free stops = inl (ap status_by (sym (in-piece-stops limited left faults pull old new (stop.Large l) all told stops)))
 
--- what is due, with no fault counted
-due-by-input : {S : Type 0} (left : S → Option (List ℕ)) (faults : S → ℕ) (pull : S → List ℕ → Result ℕ Failed → List ℕ → S → Type 0) (words : List (List ℕ)) (old new : S) (due : Status) (lines : List (List ℕ)) (command : Command) (all : List ℕ) → command_in words ≡ Some command → left old ≡ Some all → WasFree (faults old) (faults new) → Comes left faults pull words old new due lines → (due ≡ status_by (stop_of_file (takes_few command) all)) ⊎ (due ≡ status.NoMemory)
-due-by-input left faults pull words old new due lines command all line told free (no_line none same) = absurd (cc)
-due-by-input left faults pull words old new due lines command all line told free (stopped c is s stops) =
-    let same : c ≡ command = cc in
-    stops-by-input (takes_few command) left faults pull old new s all told free (subst (λ c. Stops (takes_few c) left faults pull old s new) same stops)
-due-by-input left faults pull words old new due lines command all line told free (read c is text reached sound) =
-    let same : c ≡ command = cc in
-    inl (sym (ap (λ c. status_by (stop_of_file (takes_few c) all)) (sym same) ∙ ap status_by (ap (stop_of_file (takes_few c)) (taken-whole (left old) (left new) text all told reached.bytes reached.ended) ∙ sound)))
+-- what is due of a report, with no fault counted
+due-by-input : {S : Type 0} (left : S → Option (List ℕ)) (faults : S → ℕ) (pull : S → List ℕ → Result ℕ Failed → List ℕ → S → Type 0) (words : List (List ℕ)) (old new : S) (due : Status) (lines : List (List ℕ)) (asked : Report) (all : List ℕ) → command_in words ≡ Some (command.Report asked) → left old ≡ Some all → WasFree (faults old) (faults new) → Comes left faults pull words old new due lines → (due ≡ status_by (stop_of_file (takes_few asked) all)) ⊎ (due ≡ status.NoMemory)
+due-by-input left faults pull words old new due lines asked all line told free (no_line none same) = absurd (cc)
+due-by-input left faults pull words old new due lines asked all line told free (no_memory same) = inr refl
+due-by-input left faults pull words old new due lines asked all line told free (made number count is same) = absurd (cc)
+due-by-input left faults pull words old new due lines asked all line told free (stopped r is s stops) =
+    let same : r ≡ asked = cc in
+    stops-by-input (takes_few asked) left faults pull old new s all told free (subst (λ r. Stops (takes_few r) left faults pull old s new) same stops)
+due-by-input left faults pull words old new due lines asked all line told free (read r is text reached sound) =
+    let same : r ≡ asked = cc in
+    inl (sym (ap (λ r. status_by (stop_of_file (takes_few r) all)) (sym same) ∙ ap status_by (ap (stop_of_file (takes_few r)) (taken-whole (left old) (left new) text all told reached.bytes reached.ended) ∙ sound)))
 
--- a run that no count of faults tells of ends as its input says, or for want of memory
-pub complete-by : {S K : Type 0} (left : S → Option (List ℕ)) (pull_faults : S → ℕ) (pull : S → List ℕ → Result ℕ Failed → List ℕ → S → Type 0) (written : K → Option (List ℕ)) (push_faults : K → ℕ) (push : K → List ℕ → Result (Unit {0}) Failed → K → Type 0) (words : List (List ℕ)) (source source' : S) (sink sink' : K) (result : Status) (command : Command) (all : List ℕ)
-    → Ends left pull_faults pull written push_faults push words source source' sink sink' result → command_in words ≡ Some command → left source ≡ Some all → WasFree (pull_faults source) (pull_faults source') → WasFree (push_faults sink) (push_faults sink') → (result ≡ status_by (stop_of_file (takes_few command) all)) ⊎ (result ≡ status.NoMemory)
-complete-by left pull_faults pull written push_faults push words source source' sink sink' result command all ends line told free_source free_sink =
-    elim ends.ends [
-      | inl whole ↦ elim (due-by-input left pull_faults pull words source source' ends.due ends.lines command all line told free_source ends.comes) [ inl is ↦ inl (whole.0 ∙ is) | inr memory ↦ inr (whole.0 ∙ memory) ]
-      | inr broken ↦ absurd (not-rose (push_faults sink) (push_faults sink') free_sink broken.1.rose)
-    ]
+-- what is due of a made file
+due-made : {S : Type 0} (left : S → Option (List ℕ)) (faults : S → ℕ) (pull : S → List ℕ → Result ℕ Failed → List ℕ → S → Type 0) (words : List (List ℕ)) (old new : S) (due : Status) (lines : List (List ℕ)) (number count : ℕ) → command_in words ≡ Some (command.Make number count) → Comes left faults pull words old new due lines → (due ≡ status.Done) ⊎ (due ≡ status.NoMemory)
+due-made left faults pull words old new due lines number count line (no_line none same) = absurd (cc)
+due-made left faults pull words old new due lines number count line (no_memory same) = inr refl
+due-made left faults pull words old new due lines number count line (made n c is same) = inl refl
+due-made left faults pull words old new due lines number count line (stopped r is s stops) = absurd (cc)
+due-made left faults pull words old new due lines number count line (read r is text reached sound) = absurd (cc)
+
+-- what is due where the words are no line
+due-none : {S : Type 0} (left : S → Option (List ℕ)) (faults : S → ℕ) (pull : S → List ℕ → Result ℕ Failed → List ℕ → S → Type 0) (words : List (List ℕ)) (old new : S) (due : Status) (lines : List (List ℕ)) → command_in words ≡ None → Comes left faults pull words old new due lines → (due ≡ status.Usage) ⊎ (due ≡ status.NoMemory)
+due-none left faults pull words old new due lines line (no_line none same) = inl refl
+due-none left faults pull words old new due lines line (no_memory same) = inr refl
+due-none left faults pull words old new due lines line (made n c is same) = absurd (cc)
+due-none left faults pull words old new due lines line (stopped r is s stops) = absurd (cc)
+due-none left faults pull words old new due lines line (read r is text reached sound) = absurd (cc)
+
+module _ {S K : Type 0} (left : S → Option (List ℕ)) (pull_faults : S → ℕ) (pull : S → List ℕ → Result ℕ Failed → List ℕ → S → Type 0) (written : K → Option (List ℕ)) (push_faults : K → ℕ) (push : K → List ℕ → Result (Unit {0}) Failed → K → Type 0) (words : List (List ℕ)) (source source' : S) (sink sink' : K) (result : Status) (ends : Ends left pull_faults pull written push_faults push words source source' sink sink' result) where
+  -- a run ends as is due, or a push failed
+  by-due : (X : Status) → (ends.due ≡ X) ⊎ (ends.due ≡ status.NoMemory) → WasFree (push_faults sink) (push_faults sink') → (result ≡ X) ⊎ (result ≡ status.NoMemory)
+  by-due X due free =
+      elim ends.ends [
+        | inl whole ↦ elim due [ inl is ↦ inl (whole.0 ∙ is) | inr memory ↦ inr (whole.0 ∙ memory) ]
+        | inr broken ↦ absurd (not-rose (push_faults sink) (push_faults sink') free broken.1.rose)
+      ]
+
+  -- a run that no count of faults tells of ends as its input says, or for want of memory
+  pub complete-by : (asked : Report) (all : List ℕ) → command_in words ≡ Some (command.Report asked) → left source ≡ Some all → WasFree (pull_faults source) (pull_faults source') → WasFree (push_faults sink) (push_faults sink') → (result ≡ status_by (stop_of_file (takes_few asked) all)) ⊎ (result ≡ status.NoMemory)
+  complete-by asked all line told free_source free_sink = by-due _ (due-by-input left pull_faults pull words source source' ends.due ends.lines asked all line told free_source ends.comes) free_sink
+
+  -- and one that makes a file is done
+  pub made-by : (number count : ℕ) → command_in words ≡ Some (command.Make number count) → WasFree (push_faults sink) (push_faults sink') → (result ≡ status.Done) ⊎ (result ≡ status.NoMemory)
+  made-by number count line free = by-due _ (due-made left pull_faults pull words source source' ends.due ends.lines number count line ends.comes) free
+
+  -- words that are no line are told, but for want of memory
+  pub usage-by : command_in words ≡ None → (result ≡ status.Usage) ⊎ ((result ≡ status.WriteFault) ⊎ (result ≡ status.NoMemory))
+  usage-by line =
+      elim ends.ends [
+        | inl whole ↦ elim (due-none left pull_faults pull words source source' ends.due ends.lines line ends.comes) [ inl is ↦ inl (whole.0 ∙ is) | inr memory ↦ inr (inr (whole.0 ∙ memory)) ]
+        | inr broken ↦ inr (inl broken.0)
+      ]
 
 -- a stopped run is not done
 not-done : (s : Stop) → status_of s ≡ status.Done → ⊥
@@ -113,10 +148,12 @@ is-sound limited text none =
 -- what a done run read and wrote
 done-of : {S : Type 0} (left : S → Option (List ℕ)) (faults : S → ℕ) (pull : S → List ℕ → Result ℕ Failed → List ℕ → S → Type 0) (words : List (List ℕ)) (old new : S) (written written' : Option (List ℕ)) (due : Status) (lines : List (List ℕ)) → Comes left faults pull words old new due lines → due ≡ status.Done → Appends written written' (concat lines) → WasDone (left old) (left new) written written' words
 done-of left faults pull words old new written written' due lines (no_line none same) is wrote = absurd (cc)
-done-of left faults pull words old new written written' due lines (stopped c line s stops) is wrote = absurd (not-done s is)
-done-of left faults pull words old new written written' due lines (read c line text reached sound) is wrote =
-    let within = is-sound (takes_few c) text sound in
-    record { command = c; line = line; text = text; bytes = reached.bytes; ended = reached.ended; sound = within.sound; few_bytes = within.few_bytes; few_stamps = within.few_stamps; few_accepted = within.few_accepted; wrote = wrote }
+done-of left faults pull words old new written written' due lines (no_memory same) is wrote = absurd (cc)
+done-of left faults pull words old new written written' due lines (made number count line same) is wrote = filed number count line (ap left same) wrote
+done-of left faults pull words old new written written' due lines (stopped r line s stops) is wrote = absurd (not-done s is)
+done-of left faults pull words old new written written' due lines (read r line text reached sound) is wrote =
+    let within = is-sound (takes_few r) text sound in
+    reported r line (record { text = text; bytes = reached.bytes; ended = reached.ended; sound = within.sound; few_bytes = within.few_bytes; few_stamps = within.few_stamps; few_accepted = within.few_accepted; wrote = wrote })
 
 pub done-by : {S K : Type 0} (left : S → Option (List ℕ)) (pull_faults : S → ℕ) (pull : S → List ℕ → Result ℕ Failed → List ℕ → S → Type 0) (written : K → Option (List ℕ)) (push_faults : K → ℕ) (push : K → List ℕ → Result (Unit {0}) Failed → K → Type 0) (words : List (List ℕ)) (source source' : S) (sink sink' : K) (result : Status)
     → Ends left pull_faults pull written push_faults push words source source' sink sink' result → result ≡ status.Done → WasDone (left source) (left source') (written sink) (written sink') words

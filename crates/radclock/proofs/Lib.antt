@@ -9,4 +9,5 @@ pub mod Endings
 pub mod Fulls
 pub mod Counted
 pub mod Ticking
+pub mod Filing
 pub mod Playing

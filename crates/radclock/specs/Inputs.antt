@@ -1,5 +1,5 @@
 -- What an input says, and where it is not read further.
-use Rattle.std.specs.Prelude.{◌≡◌, ℕ, ◌≤◌, Bool, true, ◌&&◌, List, [], ◌∷◌, length, take, if◌then◌else◌, nat_lt, Option, None, Some}
+use Rattle.std.specs.Prelude.{◌≡◌, ℕ, ◌≤◌, Bool, true, false, ◌&&◌, List, [], ◌∷◌, length, take, if◌then◌else◌, nat_lt, Option, None, Some}
 use Rattle.std.specs.List.{All}
 use Rattle.std.specs.Option.{option_map}
 use Rattle.stamp_text.specs.Accepted.{IsTimed, accept_of, accepted_with, last_of}
@@ -9,6 +9,8 @@ use Rattle.stamp_text.specs.declared.lines.Line.TheVariants as gives
 use Rattle.stamp_text.specs.declared.lines.LineFault.{LineFault}
 use Rattle.stamp_text.specs.declared.lines.Stamp.{Stamp}
 use Rattle.report_text.specs.declared.lines.Limit.TheVariants as limit
+use Rattle.clock_words.specs.declared.commands.Report.{Report}
+use Rattle.clock_words.specs.declared.commands.Report.TheVariants as report
 use Rattle.radclock.specs.declared.inputs.StampFile.{StampFile}
 use Rattle.radclock.specs.declared.inputs.StampLine.{StampLine}
 use Rattle.radclock.specs.declared.inputs.Stop.{Stop}
@@ -24,6 +26,13 @@ most_stamps = 65536
 
 abbrev pub most_accepted : ℕ
 most_accepted = 16384
+
+-- a report takes only so many accepted stamps: one on ticks keeps them all in memory
+abbrev pub takes_few : Report → Bool
+takes_few report.Stamps = false
+takes_few report.Rtt = false
+takes_few report.Estimate = false
+takes_few (report.Ticks ticks) = true
 
 -- the stamps among lines, each with the number of its line
 abbrev pub stamps_in : List Line → List StampLine

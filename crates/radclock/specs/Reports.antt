@@ -12,8 +12,8 @@ use Rattle.report_text.specs.declared.lines.ReportHead.{ReportHead}
 use Rattle.report_text.specs.declared.lines.ReportHead.TheVariants as head
 use Rattle.radclock.specs.Journals.{played_by}
 use Rattle.radclock.specs.declared.inputs.StampLine.{StampLine}
-use Rattle.radclock.specs.declared.words.Command.{Command}
-use Rattle.radclock.specs.declared.words.Command.TheVariants as command
+use Rattle.clock_words.specs.declared.commands.Report.{Report}
+use Rattle.clock_words.specs.declared.commands.Report.TheVariants as asked
 
 -- a stamp with its line, and that it is accepted or why it is refused
 pub record Outcome : Type 0 where
@@ -80,9 +80,9 @@ ticks_text head hs counts = (head_text head ∷ tick_lines 0 hs) ++ end_text cou
 abbrev pub ticks_report : ℕ → ℕ → List Outcome → List Hands → List (List ℕ)
 ticks_report freq ticks q hs = ticks_text (head.Ticks freq ticks) hs (end_counts q (Some (length hs)))
 
--- the report of a command on a file
-unfoldable pub report_of : Command → ℕ → List StampLine → List (List ℕ)
-report_of command.Stamps freq stamps = report (head.Stamps freq) (stamps_says freq) (outcomes freq [] stamps)
-report_of command.Rtt freq stamps = report (head.Rtt freq) (rtt_says freq) (outcomes freq [] stamps)
-report_of command.Estimate freq stamps = report (head.Estimate freq) (estimate_says freq) (outcomes freq [] stamps)
-report_of (command.Ticks ticks) freq stamps = ticks_report freq ticks (outcomes freq [] stamps) (played_by freq ticks stamps)
+-- the report that is asked for, on a file
+unfoldable pub report_of : Report → ℕ → List StampLine → List (List ℕ)
+report_of asked.Stamps freq stamps = report (head.Stamps freq) (stamps_says freq) (outcomes freq [] stamps)
+report_of asked.Rtt freq stamps = report (head.Rtt freq) (rtt_says freq) (outcomes freq [] stamps)
+report_of asked.Estimate freq stamps = report (head.Estimate freq) (estimate_says freq) (outcomes freq [] stamps)
+report_of (asked.Ticks ticks) freq stamps = ticks_report freq ticks (outcomes freq [] stamps) (played_by freq ticks stamps)

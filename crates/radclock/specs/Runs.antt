@@ -5,23 +5,29 @@ use Rattle.std.specs.Io.KnownBytes.{Appends, Consumes, IsAtEnd}
 use Rattle.rad_io.specs.Pushes.{Wrote, Broke}
 use Rattle.rad_io.specs.declared.Failed.{Failed}
 use Rattle.stamp_text.specs.Grammar.{fault_of_file}
+use Rattle.stamp_maker.specs.MadeStamps.{made_list}
 use Rattle.report_text.specs.Text.{fault_text}
 use Rattle.report_text.specs.declared.lines.FaultText.TheVariants as fault
-use Rattle.radclock.specs.Inputs.{most_bytes, most_stamps, most_accepted, accepted_among, stop_of_file, freq_of_file, stamps_of_file}
+use Rattle.clock_words.specs.Lines.{command_in}
+use Rattle.clock_words.specs.declared.commands.Command.TheVariants as command
+use Rattle.clock_words.specs.declared.commands.Report.{Report}
+use Rattle.radclock.specs.Inputs.{most_bytes, most_stamps, most_accepted, accepted_among, takes_few, stop_of_file, freq_of_file, stamps_of_file}
+use Rattle.report_text.specs.MadeFiles.{file_lines_of}
 use Rattle.radclock.specs.Readings.{ReachesEnd, Stops}
 use Rattle.radclock.specs.Reports.{report_of}
 use Rattle.radclock.specs.Statuses.{status_of, fault_of}
-use Rattle.radclock.specs.Words.{command_in, takes_few}
 use Rattle.radclock.specs.declared.inputs.Stop.{Stop}
 use Rattle.radclock.specs.declared.status.Status.{Status}
 use Rattle.radclock.specs.declared.status.Status.TheVariants as status
-use Rattle.radclock.specs.declared.words.Command.{Command}
 
--- which status a run is to end with, and which lines it is to write, by its words and what it read
+-- which status a run is to end with, and which lines it is to write, by its words and what it read.
+-- Only a report reads.
 pub data Comes {S : Type 0} (left : S → Option (List ℕ)) (faults : S → ℕ) (pull : S → List ℕ → Result ℕ Failed → List ℕ → S → Type 0) (words : List (List ℕ)) (old new : S) : Status → List (List ℕ) → Type 0 where
   no_line : command_in words ≡ None → new ≡ old → Comes left faults pull words old new status.Usage (fault_text fault.Usage ∷ [])
-  stopped : (c : Command) → command_in words ≡ Some c → (stop : Stop) → Stops (takes_few c) left faults pull old stop new → Comes left faults pull words old new (status_of stop) (fault_text (fault_of stop) ∷ [])
-  read : (c : Command) → command_in words ≡ Some c → (text : List ℕ) → ReachesEnd (takes_few c) left faults pull old text new → stop_of_file (takes_few c) text ≡ None → Comes left faults pull words old new status.Done (report_of c (freq_of_file text) (stamps_of_file text))
+  no_memory : new ≡ old → Comes left faults pull words old new status.NoMemory (fault_text fault.Memory ∷ [])
+  made : (number count : ℕ) → command_in words ≡ Some (command.Make number count) → new ≡ old → Comes left faults pull words old new status.Done (file_lines_of (made_list number count))
+  stopped : (r : Report) → command_in words ≡ Some (command.Report r) → (stop : Stop) → Stops (takes_few r) left faults pull old stop new → Comes left faults pull words old new (status_of stop) (fault_text (fault_of stop) ∷ [])
+  read : (r : Report) → command_in words ≡ Some (command.Report r) → (text : List ℕ) → ReachesEnd (takes_few r) left faults pull old text new → stop_of_file (takes_few r) text ≡ None → Comes left faults pull words old new status.Done (report_of r (freq_of_file text) (stamps_of_file text))
 
 -- the lines that were to be written are, and the run ends as it was to, or a push failed, which
 -- was the last one
@@ -39,19 +45,22 @@ pub record Ends {S K : Type 0} (left : S → Option (List ℕ)) (pull_faults : S
   pub comes : Comes left pull_faults pull words source source' due lines
   pub ends : EndsWith written push_faults push sink lines due result sink'
 
--- the input was read to its end, its text is in the grammar and within the limits, and the
--- report on it was appended
-pub record WasDone (left left' written written' : Option (List ℕ)) (words : List (List ℕ)) : Type 0 where
-  pub command : Command
-  pub line : command_in words ≡ Some command
+-- the input was read to its end, its text is in the grammar and within the limits, and this report
+-- on it was appended
+pub record WasRead (left left' written written' : Option (List ℕ)) (r : Report) : Type 0 where
   pub text : List ℕ
   pub bytes : Consumes left left' text
   pub ended : IsAtEnd left'
   pub sound : fault_of_file text ≡ None
   pub few_bytes : length text ≤ most_bytes
   pub few_stamps : length (stamps_of_file text) ≤ most_stamps
-  pub few_accepted : takes_few command ≡ true → length (accepted_among (freq_of_file text) [] (stamps_of_file text)) ≤ most_accepted
-  pub wrote : Appends written written' (concat (report_of command (freq_of_file text) (stamps_of_file text)))
+  pub few_accepted : takes_few r ≡ true → length (accepted_among (freq_of_file text) [] (stamps_of_file text)) ≤ most_accepted
+  pub wrote : Appends written written' (concat (report_of r (freq_of_file text) (stamps_of_file text)))
+
+-- what was read and appended: a report on the input, or a made file, and then nothing was read
+pub data WasDone (left left' written written' : Option (List ℕ)) (words : List (List ℕ)) : Type 0 where
+  reported : (r : Report) → command_in words ≡ Some (command.Report r) → WasRead left left' written written' r → WasDone left left' written written' words
+  filed : (number count : ℕ) → command_in words ≡ Some (command.Make number count) → left' ≡ left → Appends written written' (concat (file_lines_of (made_list number count))) → WasDone left left' written written' words
 
 -- the count of faults did not rise, and does not stand at its last value
 pub record WasFree (before now : ℕ) : Type 0 where

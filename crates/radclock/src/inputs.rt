@@ -1,4 +1,8 @@
 // What an input gives.
+ghost use Rattle.std.specs.Prelude.{◌≡◌};
+ghost use Rattle.radclock.specs.Inputs.{takes_few};
+
+use clock_words::Report;
 use report_text::Limit;
 use stamp_text::{LineFault, Stamp};
 
@@ -38,4 +42,14 @@ pub enum Stop {
     Fault(LineFault),
     /// The input passes a limit.
     Large(Limit),
+}
+
+/// Whether a report takes only so many accepted stamps, 16,384.
+pub fn takes_few(report: Report) -> bool
+    ensures { result ≡ takes_few report }
+{
+    match report {
+        Report::Stamps | Report::Rtt | Report::Estimate => false,
+        Report::Ticks { .. } => true,
+    }
 }

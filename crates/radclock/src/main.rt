@@ -2,11 +2,14 @@
 //! words ask for to standard output.
 #![tactic(auto)]
 
+ghost use Rattle.std.specs.Prelude.{◌≡◌, OnOk, OnErr};
+
 mod bases;
 mod estimates;
 mod gather;
 mod inputs;
 mod journal;
+mod make;
 #[cfg(test)]
 mod plain;
 mod plays;
@@ -18,12 +21,12 @@ mod status;
 #[cfg(test)]
 mod tests;
 mod ticks;
-mod words;
 
 use ff_grain::NoMemory;
 use rad_io::{StdSink, StdSource};
 pub use run::run;
 pub use status::Status;
+use std::io::{BufWriter, Write};
 use std::process::ExitCode;
 use std::{env, io};
 
@@ -45,14 +48,32 @@ fn owned_words<R: std::rt::Env + AllocGlobal>(rt: &R) -> Result<Vec<String>, NoM
     Ok(words)
 }
 
+/// The bytes of output that are gathered before they are written.
+const BLOCK: usize = 65_536;
+
+// How a run ended, whose output was then written out.
+fn ended(status: Status, written: io::Result<()>) -> Status
+    ensures ok { OnOk written (result ≡ status) }
+    ensures err { OnErr written (result ≡ Status.WriteFault) }
+{
+    match written {
+        Ok(()) => status,
+        Err(_) => Status::WriteFault,
+    }
+}
+
 fn run_with(rt: &HostRuntime, owned: &[String]) -> Result<Status, NoMemory> {
     let mut words = Vec::new(rt.alloc());
     for word in owned {
         words.push(word.as_str())?;
     }
+    let Ok(mut output) = BufWriter::with_capacity(rt.alloc(), BLOCK, io::writer(rt)) else {
+        return Err(NoMemory);
+    };
     let mut source = StdSource::new(rt.reader());
-    let mut sink = StdSink::new(io::writer(rt));
-    Ok(run(rt.alloc(), &words, &mut source, &mut sink))
+    let mut sink = StdSink::new(&mut output);
+    let status = run(rt.alloc(), &words, &mut source, &mut sink);
+    Ok(ended(status, output.flush()))
 }
 
 fn main(rt: HostRuntime) -> ExitCode {

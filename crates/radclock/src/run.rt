@@ -1,29 +1,36 @@
 // The top call.
-ghost use Rattle.std.specs.Prelude.{◌≡◌, ◌⊎◌, ℕ, List, [], ◌∷◌, map, Some, None};
+ghost use Rattle.std.specs.Prelude.{◌≡◌, ◌⊎◌, ◌≤◌, ◌<◌, ◌^◌, ℕ, List, [], ◌∷◌, map, Some, None};
 ghost use Rattle.report_text.specs.Text.{fault_text};
-ghost use Rattle.radclock.specs.Inputs.{IsRanged, stop_of_file};
+ghost use Rattle.clock_words.specs.Lines.{command_in};
+ghost use Rattle.clock_words.specs.declared.commands.Command.TheVariants as command;
+ghost use Rattle.clock_words.specs.declared.commands.Report.{Report};
+ghost use Rattle.radclock.specs.Inputs.{IsRanged, stop_of_file, takes_few};
+ghost use Rattle.stamp_maker.specs.MadeStamps.{made_list};
+ghost use Rattle.report_text.specs.MadeFiles.{file_lines_of};
 ghost use Rattle.radclock.specs.Reports.{report, outcomes, report_of, ticks_text};
 ghost use Rattle.radclock.specs.Runs.{Ends, EndsWith, Finishes, WasDone, WasFree};
 ghost use Rattle.radclock.specs.Statuses.{status_by};
-ghost use Rattle.radclock.specs.Words.{command_in, takes_few};
-ghost use Rattle.radclock.specs.declared.words.Command.{Command};
 
 use crate::bases::Bases;
 use crate::estimates::Estimates;
-use crate::inputs::StampFile;
+use crate::inputs::{StampFile, takes_few};
 use crate::journal::{Played, play_file};
+use crate::make::push_made;
 use crate::reading::read_file;
 use crate::reports::{Telling, push_report};
 use crate::stamps::Stamps;
 use crate::status::{Status, fault_of, status_of};
 use crate::ticks::push_ticks;
-use crate::words::{Command, command_of};
+use clock_words::{Command, Report, command_of};
 use ff_estimator::Daemon;
 use ff_grain::NoMemory;
 use rad_io::{Failed, Sink, Source};
 use report_text::{FaultText, ReportHead, fault_line};
 use rtt_window::Window;
 use std::alloc::Global;
+use std::marker::Brand;
+use std::sync::ledger::{Blank, Ledger};
+use step_count::Steps;
 
 // Pushes a fault line, and ends.
 fn refuse<K: Sink>(sink: &mut K, fault: FaultText, due: Status) -> Status
@@ -62,64 +69,101 @@ fn report_ticks<K: Sink>(sink: &mut K, head: &ReportHead, played: &Played) -> St
     }
 }
 
-// Takes the memory that a command wants, pushes its report on a file, and ends.
+// Takes the memory that a report wants, pushes it, and ends. The comparisons of round trips are counted
+// in a ledger of their own, which ends here.
 #[tactic(auto, unfolding(crate::specs::Reports::report_of))]
-fn finish<K: Sink>(alloc: Global, sink: &mut K, command: Command, file: &StampFile) -> Status
-    requires { IsRanged file.now.freq file.now.stamps.items }
-    ensures { Finishes K.written K.faults K.push_gives sink.old (report_of command file.now.freq file.now.stamps.items) result sink.new }
+fn finish<K: Sink, L: Ledger>(
+    alloc: Global,
+    sink: &mut K,
+    asked: Report,
+    file: &StampFile,
+    blank: Blank,
+) -> Status
+    requires name { blank.name ≡ L.name }
+    requires parts { blank.parts ≡ L.parts }
+    requires some { 0 < blank.parts }
+    requires ranged { IsRanged file.now.freq file.now.stamps.items }
+    ensures { Finishes K.written K.faults K.push_gives sink.old (report_of asked file.now.freq file.now.stamps.items) result sink.new }
 {
     let freq = file.freq;
-    match command {
-        Command::Stamps => report(sink, &mut Stamps, &ReportHead::Stamps { freq }, file),
-        Command::Rtt => match Window::new(alloc, freq) {
-            Ok(window) => report(sink, &mut Bases { window }, &ReportHead::Rtt { freq }, file),
-            Err(NoMemory) => refuse(sink, FaultText::Memory, Status::NoMemory),
-        },
-        Command::Estimate => match Daemon::new(alloc, freq) {
-            Ok(daemon) => {
-                let head = ReportHead::Estimate { freq };
-                report(sink, &mut Estimates { daemon }, &head, file)
+    let mut steps = Steps::<L>::new(blank);
+    match asked {
+        Report::Stamps => report(sink, &mut Stamps, &ReportHead::Stamps { freq }, file),
+        Report::Rtt => match Window::new(alloc, freq) {
+            Ok(window) => {
+                let head = ReportHead::Rtt { freq };
+                report(sink, &mut Bases { window, steps }, &head, file)
             }
             Err(NoMemory) => refuse(sink, FaultText::Memory, Status::NoMemory),
         },
-        Command::Ticks { ticks } => match play_file(alloc, file, ticks) {
+        Report::Estimate => match Daemon::new(alloc, freq) {
+            Ok(daemon) => {
+                let head = ReportHead::Estimate { freq };
+                report(sink, &mut Estimates { daemon, steps }, &head, file)
+            }
+            Err(NoMemory) => refuse(sink, FaultText::Memory, Status::NoMemory),
+        },
+        Report::Ticks { ticks } => match play_file(alloc, file, ticks, &mut steps) {
             Ok(played) => report_ticks(sink, &ReportHead::Ticks { freq, ticks }, &played),
             Err(NoMemory) => refuse(sink, FaultText::Memory, Status::NoMemory),
         },
     }
 }
 
-// Reads the words and the input, and then writes.
-fn answer<S: Source, K: Sink>(alloc: Global, words: &[&str], source: &mut S, sink: &mut K) -> Status
-    ensures { Ends S.left S.faults S.pull_gives K.written K.faults K.push_gives (map (λ w. w.now) words.now) source.old source.new sink.old sink.new result }
+// Pushes a made file, and ends.
+fn make<K: Sink>(sink: &mut K, number: u64, count: u32) -> Status
+    requires number { number < 2 ^ 32 }
+    requires some { 1 ≤ count }
+    requires most { count ≤ 16384 }
+    ensures { EndsWith K.written K.faults K.push_gives sink.old (file_lines_of (made_list number count)) Status.Done result sink.new }
 {
-    let Some(command) = command_of(words) else {
-        return refuse(sink, FaultText::Usage, Status::Usage);
+    match push_made(sink, number, count) {
+        Ok(()) => Status::Done,
+        Err(Failed) => Status::WriteFault,
+    }
+}
+
+// Reads the words, and the input where they ask for a report, and then writes.
+fn answer<'w, S: Source, K: Sink>(
+    alloc: Global,
+    words: &'w [&'w str],
+    source: &mut S,
+    sink: &mut K,
+) -> Status
+    ensures { Ends S.left S.faults S.pull_gives K.written K.faults K.push_gives (map (λ w. w.now) words.entry.now) source.old source.new sink.old sink.new result }
+{
+    let asked = match command_of(alloc, words) {
+        Ok(Some(Command::Report(asked))) => asked,
+        Ok(Some(Command::Make { number, count })) => return make(sink, number, count),
+        Ok(None) => return refuse(sink, FaultText::Usage, Status::Usage),
+        Err(NoMemory) => return refuse(sink, FaultText::Memory, Status::NoMemory),
     };
-    match read_file(alloc, source, command.takes_few()) {
-        Ok(file) => finish(alloc, sink, command, &file),
+    match read_file(alloc, source, takes_few(asked)) {
+        Ok(file) => finish::<K, Brand>(alloc, sink, asked, &file, Blank::new(1)),
         Err(stop) => refuse(sink, fault_of(stop), status_of(stop)),
     }
 }
 
-/// Does the whole work of the program: reads the words after the program's name, then the whole
-/// input in pieces of 4,096 bytes, and then writes the report that the words ask for, or the one
-/// line of a fault. All memory is taken before the first push.
-pub fn run<S: Source, K: Sink>(
+/// Does the whole work of the program: reads the words after the program's name, then, where they ask
+/// for a report, the whole input in pieces of 4,096 bytes, and then writes the report or the made file
+/// that the words ask for, or the one line of a fault. All memory is taken before the first push.
+pub fn run<'w, S: Source, K: Sink>(
     alloc: Global,
-    words: &[&str],
+    words: &'w [&'w str],
     source: &mut S,
     sink: &mut K,
 ) -> Status
     // Which status comes, when it comes, and what was then pulled and pushed.
-    ensures ends { Ends S.left S.faults S.pull_gives K.written K.faults K.push_gives (map (λ w. w.now) words.now) source.old source.new sink.old sink.new result }
+    ensures ends { Ends S.left S.faults S.pull_gives K.written K.faults K.push_gives (map (λ w. w.now) words.entry.now) source.old source.new sink.old sink.new result }
 
     // What was appended, in bytes.
-    ensures done { result ≡ Status.Done → WasDone (S.left source.old) (S.left source.new) (K.written sink.old) (K.written sink.new) (map (λ w. w.now) words.now) }
+    ensures done { result ≡ Status.Done → WasDone (S.left source.old) (S.left source.new) (K.written sink.old) (K.written sink.new) (map (λ w. w.now) words.entry.now) }
 
-    // The words decide alone where they are no line, and the input where nothing else interferes.
-    ensures usage { command_in (map (λ w. w.now) words.now) ≡ None → (result ≡ Status.Usage) ⊎ (result ≡ Status.WriteFault) }
-    ensures complete { (command : Command) (text : List ℕ) → command_in (map (λ w. w.now) words.now) ≡ Some command → S.left source.old ≡ Some text → WasFree (S.faults source.old) (S.faults source.new) → WasFree (K.faults sink.old) (K.faults sink.new) → (result ≡ status_by (stop_of_file (takes_few command) text)) ⊎ (result ≡ Status.NoMemory) }
+    // The words decide alone where they are no line or ask for a made file, and else the input, where
+    // nothing else interferes and memory is there.
+    ensures usage { command_in (map (λ w. w.now) words.entry.now) ≡ None → (result ≡ Status.Usage) ⊎ ((result ≡ Status.WriteFault) ⊎ (result ≡ Status.NoMemory)) }
+    ensures complete { (asked : Report) (text : List ℕ) → command_in (map (λ w. w.now) words.entry.now) ≡ Some (command.Report asked) → S.left source.old ≡ Some text → WasFree (S.faults source.old) (S.faults source.new) → WasFree (K.faults sink.old) (K.faults sink.new) → (result ≡ status_by (stop_of_file (takes_few asked) text)) ⊎ (result ≡ Status.NoMemory) }
+    ensures made { (number count : ℕ) → command_in (map (λ w. w.now) words.entry.now) ≡ Some (command.Make number count) → WasFree (K.faults sink.old) (K.faults sink.new) → (result ≡ Status.Done) ⊎ (result ≡ Status.NoMemory) }
 {
     answer(alloc, words, source, sink)
 }

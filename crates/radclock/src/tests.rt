@@ -1,4 +1,5 @@
 // Examples of whole runs, with answers from the rules of the stamp file and of the report.
+mod make;
 mod ticks;
 
 use crate::inputs::Stop;
@@ -301,19 +302,14 @@ fn a_level_shift_is_told(rt: HostRuntime) -> Result<(), Fail> {
 
 #[test]
 fn other_words_are_refused(rt: HostRuntime) -> Result<(), Fail> {
-    let rows: [&[&str]; 12] = [
+    let rows: [&'static [&'static str]; 7] = [
         &[],
-        &[""],
-        &["stamp"],
-        &["stamps "],
-        &["--help"],
         &["--", "stamps"],
         &["stamps", "extra"],
-        &["rtt", "extra"],
-        &["rtt", "rtt"],
-        &["stamps", "rtt"],
-        &["Rtt"],
-        &["rtt "],
+        &["ticks", "--ticks", "16"],
+        &["make", "7"],
+        &["run", "7", "3"],
+        &["replay", "--readers", "17"],
     ];
     for words in rows {
         // No pull is made, else the first one would fail.
