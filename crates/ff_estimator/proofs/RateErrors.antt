@@ -1,8 +1,8 @@
 -- How wrong a period that is believed may be.
 use Rattle.std.proofs.Common.{ℕ, ◌*◌, ◌/◌, ◌<◌, ◌≤◌, ◌^◌, arith}
 use Rattle.std.proofs.Math.Nat.{div-le_of_le-mul}
-use Rattle.stamp_text.specs.Periods.{lowest_period, highest_period}
-use Rattle.stamp_text.proofs.PeriodLaws.{lowest-positive}
+use Rattle.ff_grain.specs.Periods.{lowest_period, highest_period}
+use Rattle.ff_grain.proofs.PeriodLaws.{lowest-positive}
 use Rattle.rate_pair.specs.Rates.{IsRate, rate_error}
 use Rattle.rate_pair.specs.declared.rates.Rate.{Rate}
 use Rattle.ff_estimator.specs.Estimates.{rate_parts}

@@ -1,8 +1,9 @@
 -- What one accepted stamp says of the time at a later count.
 use Rattle.std.specs.Prelude.{ℕ, ◌+◌, ◌-◌, ◌*◌}
+use Rattle.ff_grain.specs.Grains.{grains_of}
 use Rattle.stamp_text.specs.Accepted.{trip}
 use Rattle.stamp_text.specs.declared.lines.Stamp.{Stamp}
-use Rattle.rate_pair.specs.Rates.{grains_of, rate_error}
+use Rattle.rate_pair.specs.Rates.{rate_error}
 use Rattle.rate_pair.specs.declared.rates.Rate.{Rate}
 use Rattle.offset_weights.specs.Means.{Term}
 use Rattle.offset_weights.specs.Weights.{weight_of}

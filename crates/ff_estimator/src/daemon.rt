@@ -1,7 +1,7 @@
 // The daemon.
 ghost use Rattle.std.specs.Prelude.{◌≡◌, ◌<◌, ◌≤◌, ◌-◌, ◌+◌, ◌*◌, ◌^◌, ℕ, List, [], ◌∷◌, ◌++◌, length, Ok, IfOk, IfSome, pos, ◌≤ℤ◌, ◌<ℤ◌};
 ghost use Rattle.std.specs.List.{All};
-ghost use Rattle.stamp_text.specs.Accepted.{IsTimed, accept_of, accepted_with, last_of};
+ghost use Rattle.stamp_text.specs.Accepted.{IsInRange, accept_of, accepted_with, last_of};
 ghost use Rattle.stamp_text.specs.declared.accepts.Refused.{Refused};
 ghost use Rattle.stamp_text.specs.declared.lines.Stamp.{Stamp};
 ghost use Rattle.rate_pair.specs.Rates.{IsRate};
@@ -46,7 +46,7 @@ const RECENT: u64 = 32;
 // The newest stamp, if there is one.
 fn newest(window: &Window) -> Option<Stamp>
     ensures value { result ≡ last_of window.now.stamps }
-    ensures timed { IfSome result IsTimed }
+    ensures timed { IfSome result IsInRange }
 {
     match window.len().checked_sub(1) {
         Some(last) => Some(window.stamp(last)),
@@ -147,7 +147,7 @@ impl Daemon {
 
     // Tests a stamp against the newest one.
     fn test(&self, s: &Stamp) -> Result<(), Refused>
-        requires { IsTimed s.now }
+        requires { IsInRange s.now }
         ensures { result ≡ accept_of (last_of self.now.window.stamps) s.now self.now.window.freq }
     {
         accept(newest(&self.window).as_ref(), s, self.freq)
@@ -155,7 +155,7 @@ impl Daemon {
 
     // The estimate at a stamp that is accepted behind the newest one.
     fn estimate<L: Ledger>(&mut self, s: Stamp, steps: &mut Steps<L>) -> Full
-        requires timed { IsTimed s }
+        requires timed { IsInRange s }
         requires accepted { accept_of (last_of self.old.window.stamps) s self.old.window.freq ≡ Ok tt }
         ensures stands { (freq : ℕ) (all : List Stamp) → StandsFor self.old freq all → StandsFor self.new freq (all ++ s ∷ []) }
         ensures value { (freq : ℕ) (all : List Stamp) → StandsFor self.old freq all → result ≡ full_at freq (all ++ s ∷ []) (length all) }
@@ -186,7 +186,7 @@ impl Daemon {
     /// A step is one comparison of two round trips. The steps and the credit together rise by twelve
     /// at most, so in the long run a stamp takes twelve steps. One that is refused takes none.
     pub fn feed<L: Ledger>(&mut self, s: Stamp, steps: &mut Steps<L>) -> Fed
-        requires { IsTimed s }
+        requires { IsInRange s }
         ensures answer { (freq : ℕ) (all : List Stamp) → StandsFor self.old freq all → result ≡ fed_of freq all s }
         ensures stands { (freq : ℕ) (all : List Stamp) → StandsFor self.old freq all → StandsFor self.new freq (accepted_with all s (accept_of (last_of all) s freq)) }
         ensures refused { (why : Refused) → result ≡ Fed.Refused why → self.new ≡ self.old }
@@ -203,7 +203,7 @@ impl Daemon {
     ///
     /// On a new daemon n stamps take 12n steps at most.
     pub fn feed_all<L: Ledger>(&mut self, stamps: &[Stamp], steps: &mut Steps<L>)
-        requires { All IsTimed stamps.now }
+        requires { All IsInRange stamps.now }
         ensures stands { (freq : ℕ) (all : List Stamp) → StandsFor self.old freq all → StandsFor self.new freq (accepted_all freq all stamps.now) }
         ensures credit { steps.new + credit self.new ≤ steps.old + credit self.old + 12 * length stamps.now }
         ensures new { (freq : ℕ) → StandsFor self.old freq [] → steps.new ≤ steps.old + 12 * length stamps.now }

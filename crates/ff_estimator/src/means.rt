@@ -1,15 +1,15 @@
 // The mean time of the kept stamps.
 ghost use Rattle.std.specs.Prelude.{◌≡◌, ◌+◌, ◌-◌, ◌*◌, ◌^◌, ◌<◌, ◌≤◌, List, [], ◌∷◌, ◌++◌, length, map, drop, IfSome, pos, ◌≤ℤ◌, ◌<ℤ◌};
-ghost use Rattle.ff_grain.specs.Grains.{number_of};
+ghost use Rattle.ff_grain.specs.Grains.{number_of, grains_of};
 ghost use Rattle.offset_weights.specs.Means.{Term, StandsFor, mean_of, numbers_of};
 ghost use Rattle.offset_weights.specs.Weights.{weight_of};
-ghost use Rattle.rate_pair.specs.Rates.{IsRate, grains_of, rate_error};
-ghost use Rattle.stamp_text.specs.Accepted.{IsTimed, IsSound, trip};
+ghost use Rattle.rate_pair.specs.Rates.{IsRate, rate_error};
+ghost use Rattle.stamp_text.specs.Accepted.{IsInRange, IsPlausible, trip};
 ghost use Rattle.ff_estimator.specs.Terms.{counts_since, term_of};
 
-use ff_grain::Bintime;
+use ff_grain::{Bintime, grains_of};
 use offset_weights::{Sums, weight};
-use rate_pair::{Rate, grains_of};
+use rate_pair::Rate;
 use rtt_window::Window;
 use stamp_text::Stamp;
 
@@ -26,7 +26,7 @@ fn counts_since(now: u64, s: &Stamp) -> u64
 // since its reply.
 fn weight_of(s: &Stamp, freq: u64, base: u64, now: u64) -> u32
     requires freq { freq ≤ 16000000000 }
-    requires sound { IsSound freq s.now }
+    requires sound { IsPlausible freq s.now }
     ensures value { result ≡ weight_of (trip s.now - base) (now - s.now.tf) freq }
     ensures most { result ≤ 65536 }
 {
@@ -39,7 +39,7 @@ fn weight_of(s: &Stamp, freq: u64, base: u64, now: u64) -> u32
 // since then take.
 fn twice_time(s: &Stamp, rate: &Rate, now: u64) -> u128
     requires now { now < 2 ^ 62 }
-    requires timed { IsTimed s.now }
+    requires timed { IsInRange s.now }
     ensures value { result ≡ grains_of s.now.tb + grains_of s.now.te + rate.now.period * counts_since now s.now }
     ensures bound { result < 2 ^ 97 + rate.now.period * counts_since now s.now }
 {
@@ -51,7 +51,7 @@ fn twice_time(s: &Stamp, rate: &Rate, now: u64) -> u128
 // wrong over the counts since then.
 fn twice_spread(s: &Stamp, rate: &Rate, now: u64) -> u128
     requires now { now < 2 ^ 62 }
-    requires timed { IsTimed s.now }
+    requires timed { IsInRange s.now }
     requires forward { s.now.ta ≤ s.now.tf }
     ensures { result ≡ trip s.now * rate.now.high + rate_error rate.now * counts_since now s.now }
 {
@@ -66,8 +66,8 @@ fn add_term(sums: &mut Sums, s: &Stamp, freq: u64, base: u64, rate: &Rate, now: 
     requires low { 1000000 ≤ freq }
     requires high { freq ≤ 16000000000 }
     requires now { now < 2 ^ 62 }
-    requires timed { IsTimed s.now }
-    requires sound { IsSound freq s.now }
+    requires timed { IsInRange s.now }
+    requires sound { IsPlausible freq s.now }
     requires rate { IsRate freq rate.now }
     ensures stands { (terms : List Term) → StandsFor sums.old terms → StandsFor sums.new (terms ++ term_of freq base rate.now now s.now ∷ []) }
     ensures added { sums.new.added ≤ sums.old.added + 1 }

@@ -1,7 +1,7 @@
 // Estimates at two stamps, by the rules of the daemon, and refusals between them.
 ghost use Rattle.std.specs.Prelude.{◌≡◌, ◌<◌};
 ghost use Rattle.std.specs.List.{All};
-ghost use Rattle.stamp_text.specs.Accepted.{IsTimed};
+ghost use Rattle.stamp_text.specs.Accepted.{IsInRange};
 
 use crate::{Daemon, Fed, Full};
 use ff_grain::{Bintime, from_nanos};
@@ -36,7 +36,7 @@ const SECOND: Columns = (
 );
 
 fn stamp_of(columns: Columns) -> Stamp
-    ensures { IsTimed result }
+    ensures { IsInRange result }
 {
     let (ta, tb, te, tf) = columns;
     Stamp {
@@ -49,8 +49,8 @@ fn stamp_of(columns: Columns) -> Stamp
 
 // Feeds some stamps for what is kept of them, and then one more, under a blank.
 fn feed_under<L: Ledger>(daemon: &mut Daemon, before: &[Stamp], s: Stamp, blank: Blank) -> Fed
-    requires before { All IsTimed before.now }
-    requires timed { IsTimed s }
+    requires before { All IsInRange before.now }
+    requires timed { IsInRange s }
     requires name { blank.name ≡ L.name }
     requires parts { blank.parts ≡ L.parts }
     requires some { 0 < blank.parts }
@@ -62,8 +62,8 @@ fn feed_under<L: Ledger>(daemon: &mut Daemon, before: &[Stamp], s: Stamp, blank:
 
 // The same, for who counts nothing.
 fn feed_behind(daemon: &mut Daemon, before: &[Stamp], s: Stamp) -> Fed
-    requires before { All IsTimed before.now }
-    requires timed { IsTimed s }
+    requires before { All IsInRange before.now }
+    requires timed { IsInRange s }
 {
     feed_under::<Brand>(daemon, before, s, Blank::new(1))
 }

@@ -1,11 +1,20 @@
 -- Times as whole numbers of grains, of 2^-64 s each.
-use Rattle.std.specs.Prelude.{ℕ, ℤ, pos, neg_ℤ, unsigned_abs, ◌+ℤ◌, ◌*ℤ◌, ◌*◌, ◌/◌}
+use Rattle.std.specs.Prelude.{ℕ, ℤ, pos, neg_ℤ, unsigned_abs, ◌+ℤ◌, ◌*ℤ◌, ◌≤ℤ◌, ◌<ℤ◌, ◌*◌, ◌/◌, ◌^◌}
 use Rattle.std.specs.Int.{int_div_euclid, int_rem_euclid}
 use Rattle.ff_grain.specs.declared.bintime.Bintime.{Bintime}
 
 -- the number of grains of a time: those of its seconds, and those above them
 abbrev pub number_of : Bintime → ℤ
 number_of t = t.sec *ℤ pos 18446744073709551616 +ℤ pos t.frac
+
+-- the same of a time that is not negative
+abbrev pub grains_of : Bintime → ℕ
+grains_of t = unsigned_abs (number_of t)
+
+-- a time from 0 to below 2^32 s
+pub record IsTime (t : Bintime) : Type 0 where
+  pub low : pos 0 ≤ℤ number_of t
+  pub high : number_of t <ℤ pos (2 ^ 96)
 
 -- the time of so many grains, of which there is one
 abbrev pub of_grains : ℤ → Bintime

@@ -1,7 +1,7 @@
 // Seconds, and grains below one second.
 ghost use Rattle.std.specs.Prelude.{◌≡◌, ◌*◌, ◌^◌, ◌<◌, pos, ◌+ℤ◌, ◌-ℤ◌, FitsSigned};
 ghost use Rattle.std.specs.Int.{w128};
-ghost use Rattle.ff_grain.specs.Grains.{number_of, of_grains, of_nanos, nanos_floor, nanos_ceil};
+ghost use Rattle.ff_grain.specs.Grains.{number_of, grains_of, IsTime, of_grains, of_nanos, nanos_floor, nanos_ceil};
 
 /// A time, or a distance of two times: whole seconds, and `frac` grains of 2^-64 s above them.
 ///
@@ -71,6 +71,15 @@ impl Bintime {
         let part = (u128::from(self.frac) * NANOS).div_ceil(SECOND as u128);
         i128::from(self.sec) * NANOS as i128 + part as i128
     }
+}
+
+/// The number of grains of a time that is not negative and below 2^32 s.
+pub fn grains_of(t: Bintime) -> u128
+    requires { IsTime t }
+    ensures value { result ≡ grains_of t }
+    ensures bound { result < 2 ^ 96 }
+{
+    t.grains().unsigned_abs()
 }
 
 /// The time that `delta` counts take at a period of `period` grains per count, exactly.

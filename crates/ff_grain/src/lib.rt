@@ -3,8 +3,10 @@
 
 mod bintime;
 mod memory;
+mod periods;
 mod scale;
 
-pub use bintime::{Bintime, convert_delta, from_nanos};
+pub use bintime::{Bintime, convert_delta, from_nanos, grains_of};
 pub use memory::NoMemory;
+pub use periods::{highest_period, lowest_period, nominal_period};
 pub use scale::{scale_ceil, trip_scale};

@@ -2,7 +2,7 @@
 use Rattle.std.specs.Prelude.{ℕ, ℤ, pos, ◌+◌, ◌-◌, ◌*◌, ◌/◌, ◌+ℤ◌, ◌-ℤ◌, int_lt, unsigned_abs, min, Bool, true, false, not, ◌&&◌, ◌||◌, nat_lt, if◌then◌else◌}
 use Rattle.ff_grain.specs.Grains.{number_of, of_grains}
 use Rattle.ff_grain.specs.declared.bintime.Bintime.{Bintime}
-use Rattle.stamp_text.specs.Periods.{nominal_period}
+use Rattle.ff_grain.specs.Periods.{nominal_period}
 use Rattle.ff_hands.specs.declared.estimates.Estimate.{Estimate}
 use Rattle.ff_hands.specs.declared.estimates.Marks.{Marks}
 use Rattle.ff_hands.specs.declared.hands.Hands.{Hands}

@@ -5,8 +5,7 @@ ghost use Rattle.ff_hands.specs.Orders.{fits, is_sane_estimate};
 ghost use Rattle.ff_hands.specs.Windups.{cold, reset_estimate};
 
 use crate::estimates::{Estimate, Marks};
-use ff_grain::Bintime;
-use stamp_text::nominal_period;
+use ff_grain::{Bintime, nominal_period};
 
 /// How hands came about.
 #[derive(Clone, Copy, Debug, PartialEq, Eq)]

@@ -2,7 +2,7 @@
 use Rattle.std.specs.Prelude.{◌≡◌, ℕ, ◌≤◌, Bool, true, false, ◌&&◌, List, [], ◌∷◌, length, take, if◌then◌else◌, nat_lt, Option, None, Some}
 use Rattle.std.specs.List.{All}
 use Rattle.std.specs.Option.{option_map}
-use Rattle.stamp_text.specs.Accepted.{IsTimed, accept_of, accepted_with, last_of}
+use Rattle.stamp_text.specs.Accepted.{IsInRange, accept_of, accepted_with, last_of}
 use Rattle.stamp_text.specs.Grammar.{given, given_of_file, fault_so_far, fault_of_file}
 use Rattle.stamp_text.specs.declared.lines.Line.{Line}
 use Rattle.stamp_text.specs.declared.lines.Line.TheVariants as gives
@@ -95,7 +95,7 @@ stamps_of_file text = stamps_in (given_of_file text)
 pub record IsRanged (freq : ℕ) (stamps : List StampLine) : Type 0 where
   pub low : 1000000 ≤ freq
   pub high : freq ≤ 16000000000
-  pub timed : All (λ x. IsTimed x.stamp) stamps
+  pub timed : All (λ x. IsInRange x.stamp) stamps
 
 -- what was read is that of a whole input that nothing stops
 pub record IsFileOf (limited : Bool) (file : StampFile) (text : List ℕ) : Type 0 where

@@ -1,7 +1,7 @@
 // The report on a file, for all commands that tell of each stamp.
 ghost use Rattle.std.specs.Prelude.{◌≡◌, ◌+◌, ◌≤◌, ◌<◌, ◌^◌, ℕ, List, [], ◌∷◌, ◌++◌, length, IfOk, IfSome, OnOk, MatchResult, Ok, Err};
 ghost use Rattle.rad_io.specs.Pushes.{Writes};
-ghost use Rattle.stamp_text.specs.Accepted.{IsTimed, accept_of, accepted_with, last_of};
+ghost use Rattle.stamp_text.specs.Accepted.{IsInRange, accept_of, accepted_with, last_of};
 ghost use Rattle.stamp_text.specs.declared.lines.Stamp.{Stamp};
 ghost use Rattle.radclock.specs.Inputs.{IsRanged};
 ghost use Rattle.radclock.specs.Reports.{report, outcomes, told_of, IsNext};
@@ -22,7 +22,7 @@ pub trait Telling {
 
     /// Pushes the line of the accepted stamp with this index, from 0. It takes no memory.
     fn tell<K: Sink>(&mut self, sink: &mut K, index: u64, stamp: &Stamp) -> Result<(), Failed>
-        requires timed { IsTimed stamp.now }
+        requires timed { IsInRange stamp.now }
         requires forward { stamp.now.ta ≤ stamp.now.tf }
         requires next { IsNext stands self.old index stamp.now }
         ensures line { (freq : ℕ) (accepted : List Stamp) → length accepted ≡ index → stands self.old freq accepted → K.push_gives sink.old (says freq accepted stamp.now) result sink.new }
@@ -48,14 +48,14 @@ fn push_stamp<K: Sink, T: Telling>(
 ) -> Result<Tally, Failed>
     requires low { 1000000 ≤ freq }
     requires high { freq ≤ 16000000000 }
-    requires before { IfSome tally.prev IsTimed }
-    requires now { IsTimed x.now.stamp }
+    requires before { IfSome tally.prev IsInRange }
+    requires now { IsInRange x.now.stamp }
     requires few { tally.accepted + tally.refused < 2 ^ 63 }
     requires at { (accepted : List Stamp) × StandsAt T.stands telling.old freq tally accepted }
     ensures line { (accepted : List Stamp) → StandsAt T.stands telling.old freq tally accepted → MatchResult result (λ _. K.push_gives sink.old (told_of (T.says freq) accepted x.now.line x.now.stamp (accept_of (last_of accepted) x.now.stamp freq)) (Ok tt) sink.new) (λ e. K.push_gives sink.old (told_of (T.says freq) accepted x.now.line x.now.stamp (accept_of (last_of accepted) x.now.stamp freq)) (Err e) sink.new) }
     ensures next { IfOk result (λ t. (accepted : List Stamp) → StandsAt T.stands telling.old freq tally accepted → StandsAt T.stands telling.new freq t (accepted_with accepted x.now.stamp (accept_of (last_of accepted) x.now.stamp freq))) }
     ensures counts { IfOk result (λ t. Counts tally t (accept_of tally.prev x.now.stamp freq)) }
-    ensures timed { IfOk result (λ t. IfSome t.prev IsTimed) }
+    ensures timed { IfOk result (λ t. IfSome t.prev IsInRange) }
 {
     match accept(tally.prev.as_ref(), &x.stamp, freq) {
         Ok(()) => {

@@ -1,12 +1,14 @@
 -- A rate and its bounds are in their order.
 use Rattle.std.proofs.Common.{ℕ, ◌+◌, ◌-◌, ◌/◌, ◌*◌, ◌<◌, ◌≤◌, arith}
 use Rattle.std.specs.Int.{div_ceil}
+use Rattle.std.proofs.lemmas.Int.{ints}
 use Rattle.std.proofs.lemmas.Nat.{le-div}
 use Rattle.std.proofs.Math.Nat.{mul-le-mul_left, div-mul-le_self}
-use Rattle.stamp_text.specs.Accepted.{IsSound, Follows}
-use Rattle.stamp_text.specs.Periods.{lowest_period, highest_period}
+use Rattle.stamp_text.specs.Accepted.{IsInRange, IsPlausible, Follows}
+use Rattle.ff_grain.specs.Grains.{grains_of}
+use Rattle.ff_grain.specs.Periods.{lowest_period, highest_period}
 use Rattle.stamp_text.specs.declared.lines.Stamp.{Stamp}
-use Rattle.stamp_text.proofs.PeriodLaws.{lowest-below, highest-above}
+use Rattle.ff_grain.proofs.PeriodLaws.{lowest-below, highest-above}
 use Rattle.rate_pair.specs.Rates.{IsRate, nominal_rate, nearest_period, rate_of}
 
 -- a greater divisor does not give more
@@ -26,9 +28,16 @@ nearest_is_rate freq grains counts trips few =
     record { lowest = omega arith; low = omega arith; high = omega arith; highest = omega arith }
 
 -- accepted stamps do not overlap, so the counts between them are more than both round trips
-pub pair_is_rate : (j k : Stamp) (freq : ℕ) → IsSound freq j → IsSound freq k → Follows j k → IsRate freq (rate_of j k freq)
+pub pair_is_rate : (j k : Stamp) (freq : ℕ) → IsPlausible freq j → IsPlausible freq k → Follows j k → IsRate freq (rate_of j k freq)
 unfolding rate_of
 pair_is_rate j k freq first second order = nearest_is_rate freq _ _ _ (omega arith)
+
+-- the server's times of accepted stamps go on
+pub forward_rises : (j k : Stamp) (freq : ℕ) → IsInRange j → IsInRange k → IsPlausible freq j → Follows j k → grains_of j.tb ≤ grains_of k.tb
+forward_rises j k freq first second this order = omega (arith, ints, first.tb.low, second.tb.low, this.times, order.times)
+
+pub backward_rises : (j k : Stamp) (freq : ℕ) → IsInRange j → IsInRange k → IsPlausible freq k → Follows j k → grains_of j.te ≤ grains_of k.te
+backward_rises j k freq first second this order = omega (arith, ints, first.te.low, second.te.low, this.times, order.times)
 
 pub nominal_is_rate : (freq : ℕ) → IsRate freq (nominal_rate freq)
 nominal_is_rate freq = record { lowest = omega arith; low = lowest-below freq; high = highest-above freq; highest = omega arith }

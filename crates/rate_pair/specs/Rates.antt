@@ -1,10 +1,9 @@
 -- How fast a counter runs, in grains per count.
-use Rattle.std.specs.Prelude.{ℕ, ◌+◌, ◌-◌, ◌/◌, ◌≤◌, min, max, unsigned_abs}
+use Rattle.std.specs.Prelude.{ℕ, ◌+◌, ◌-◌, ◌/◌, ◌≤◌, min, max}
 use Rattle.std.specs.Int.{div_ceil}
-use Rattle.ff_grain.specs.Grains.{number_of}
-use Rattle.ff_grain.specs.declared.bintime.Bintime.{Bintime}
+use Rattle.ff_grain.specs.Grains.{grains_of}
 use Rattle.stamp_text.specs.Accepted.{trip}
-use Rattle.stamp_text.specs.Periods.{nominal_period, lowest_period, highest_period}
+use Rattle.ff_grain.specs.Periods.{nominal_period, lowest_period, highest_period}
 use Rattle.stamp_text.specs.declared.lines.Stamp.{Stamp}
 use Rattle.rate_pair.specs.declared.rates.Rate.{Rate}
 
@@ -22,10 +21,6 @@ rate_error rate = max (rate.high - rate.period) (rate.period - rate.low)
 -- the rate where only the frequency is known
 abbrev pub nominal_rate : ℕ → Rate
 nominal_rate freq = record { period = nominal_period freq; low = lowest_period freq; high = highest_period freq }
-
--- the number of grains of a time that is not negative
-abbrev pub grains_of : Bintime → ℕ
-grains_of t = unsigned_abs (number_of t)
 
 -- the grains from one stamp to a later one, by both of the server's times together
 abbrev pub grains_between : Stamp → Stamp → ℕ

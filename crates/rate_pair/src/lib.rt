@@ -6,4 +6,4 @@ mod rates;
 #[cfg(test)]
 mod tests;
 
-pub use rates::{Rate, grains_of, nominal, of_pair};
+pub use rates::{Rate, nominal, of_pair};

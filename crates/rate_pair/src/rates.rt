@@ -1,10 +1,10 @@
 // The rates of a counter.
 ghost use Rattle.std.specs.Prelude.{◌≡◌, ◌^◌, ◌≤◌, ◌<◌};
-ghost use Rattle.stamp_text.specs.Accepted.{IsTime, IsTimed, IsSound, Follows};
-ghost use Rattle.rate_pair.specs.Rates.{IsRate, nominal_rate, grains_of, nearest_period, rate_of};
+ghost use Rattle.stamp_text.specs.Accepted.{IsInRange, IsPlausible, Follows};
+ghost use Rattle.rate_pair.specs.Rates.{IsRate, nominal_rate, nearest_period, rate_of};
 
-use ff_grain::Bintime;
-use stamp_text::{Stamp, highest_period, lowest_period, nominal_period};
+use ff_grain::{grains_of, highest_period, lowest_period, nominal_period};
+use stamp_text::Stamp;
 
 /// How fast a counter runs, in grains of 2^-64 s per count.
 #[derive(Clone, Copy, Debug, PartialEq, Eq)]
@@ -51,15 +51,6 @@ pub fn nominal(freq: u64) -> Rate
     }
 }
 
-/// The number of grains of a time that is not negative and below 2^32 s.
-pub fn grains_of(t: Bintime) -> u128
-    requires { IsTime t }
-    ensures value { result ≡ grains_of t }
-    ensures bound { result < 2 ^ 96 }
-{
-    t.grains().unsigned_abs()
-}
-
 // The believed period that is nearest to a number.
 fn nearest_period(freq: u64, x: u128) -> u64
     requires low { 1000000 ≤ freq }
@@ -88,10 +79,10 @@ fn nearest_period(freq: u64, x: u128) -> u64
 pub fn of_pair(j: &Stamp, k: &Stamp, freq: u64) -> Rate
     requires low { 1000000 ≤ freq }
     requires high { freq ≤ 16000000000 }
-    requires first { IsTimed j.now }
-    requires second { IsTimed k.now }
-    requires first_sound { IsSound freq j.now }
-    requires second_sound { IsSound freq k.now }
+    requires first { IsInRange j.now }
+    requires second { IsInRange k.now }
+    requires first_sound { IsPlausible freq j.now }
+    requires second_sound { IsPlausible freq k.now }
     requires follows { Follows j.now k.now }
     ensures value { result ≡ rate_of j.now k.now freq }
     ensures order { IsRate freq result }

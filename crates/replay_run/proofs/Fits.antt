@@ -4,7 +4,7 @@ use Rattle.std.specs.List.{range_with_len}
 use Rattle.std.proofs.Math.Nat.{div-le_of_le-mul, div-mul-le_self, mul-le-mul_right}
 use Rattle.std.proofs.lemmas.Nat.{le-div}
 use Rattle.std.proofs.lemmas.Bool.Decides.{nat_tests}
-use Rattle.stamp_text.specs.Periods.{nominal_period}
+use Rattle.ff_grain.specs.Periods.{nominal_period}
 use Rattle.ff_hands.specs.Orders.{is_sane_estimate}
 use Rattle.ff_hands.specs.Windups.{start_time, reset_estimate}
 use Rattle.ff_hands.proofs.Orders.{sane-is}

@@ -7,13 +7,13 @@ use Rattle.std.proofs.lemmas.List.{get_or-map, get_or-take}
 use Rattle.std.proofs.lemmas.List.Elements.{All-map, All-take, All-drop}
 use Rattle.std.proofs.lemmas.List.Sums.{sum_by-cons}
 use Rattle.ff_grain.specs.declared.bintime.Bintime.{Bintime}
-use Rattle.stamp_text.specs.Accepted.{IsTime, IsTimed, IsSound, AreAccepted}
+use Rattle.stamp_text.specs.Accepted.{IsTime, IsInRange, IsPlausible, AreAccepted}
 use Rattle.stamp_text.specs.declared.lines.Stamp.{Stamp}
-use Rattle.stamp_text.proofs.PeriodLaws.{highest-bounded}
+use Rattle.ff_grain.proofs.PeriodLaws.{highest-bounded}
 use Rattle.rtt_window.specs.Bases.{base_at}
 use Rattle.rtt_window.specs.Pairs.{pair_of}
 use Rattle.rtt_window.proofs.Pairing.{pair_of-accepted}
-use Rattle.rate_pair.specs.Rates.{IsRate, grains_of}
+use Rattle.rate_pair.specs.Rates.{IsRate}
 use Rattle.rate_pair.specs.declared.rates.Rate.{Rate}
 use Rattle.rate_pair.proofs.RateLaws.{pair_is_rate, nominal_is_rate}
 use Rattle.offset_weights.specs.Means.{Term, weights_of, times_of, spreads_of, mean_of}
@@ -59,8 +59,8 @@ count-before freq all (suc i) are here = (let rises = counts-rise freq all i (su
 -- the first n accepted stamps
 accepted-take : (freq n : ℕ) (xs : List Stamp) → AreAccepted freq xs → AreAccepted freq (take n xs)
 accepted-take freq n xs are = record {
-  timed = All-take IsTimed n xs are.timed;
-  sound = All-take (IsSound freq) n xs are.sound;
+  timed = All-take IsInRange n xs are.timed;
+  sound = All-take (IsPlausible freq) n xs are.sound;
   follow = λ i j d before here. rw (get_or-take n xs i d (omega (arith, length-take n xs)), get_or-take n xs j d (omega (arith, length-take n xs))) (are.follow i j d before (omega (arith, length-take n xs)));
 }
 
@@ -91,11 +91,11 @@ weighed : (weight x m : ℕ) → (0 < weight → x ≤ m) → weight * x ≤ wei
 weighed zero x m most = omega arith
 weighed (suc w) x m most = mul-le-mul_left (suc w) (most (omega arith))
 
-term-time : (freq base now : ℕ) (rate : Rate) (s : Stamp) → 1000000 ≤ freq → IsTimed s → IsSound freq s → HasFractions s → IsRate freq rate → (let t = term_of freq base rate now s in t.weight * t.twice_time ≤ t.weight * (2 ^ 98 - 1))
+term-time : (freq base now : ℕ) (rate : Rate) (s : Stamp) → 1000000 ≤ freq → IsInRange s → IsPlausible freq s → HasFractions s → IsRate freq rate → (let t = term_of freq base rate now s in t.weight * t.twice_time ≤ t.weight * (2 ^ 98 - 1))
 term-time freq base now rate s low timed sound whole is =
     weighed _ _ (2 ^ 98 - 1) (λ some. omega (arith, time-below s.tb timed.tb whole.tb, time-below s.te timed.te whole.te, since_below freq base now rate s sound is low some))
 
-term-spread : (freq base now : ℕ) (rate : Rate) (s : Stamp) → 1000000 ≤ freq → IsSound freq s → IsRate freq rate → (let t = term_of freq base rate now s in t.weight * t.twice_spread ≤ t.weight * (2 ^ 98 - 1))
+term-spread : (freq base now : ℕ) (rate : Rate) (s : Stamp) → 1000000 ≤ freq → IsPlausible freq s → IsRate freq rate → (let t = term_of freq base rate now s in t.weight * t.twice_spread ≤ t.weight * (2 ^ 98 - 1))
 term-spread freq base now rate s low sound is = weighed _ _ (2 ^ 98 - 1) (λ some. omega (arith, spread_below freq base now rate s sound is low some))
 
 -- so are the sums of such terms

@@ -8,7 +8,7 @@ use Rattle.min_lists.specs.declared.which.Which.{Which}
 use Rattle.min_lists.specs.declared.which.Which.TheVariants as which
 use Rattle.min_lists.specs.Lists as lists
 use Rattle.min_lists.specs.Lists.{Span, last_trips}
-use Rattle.stamp_text.specs.Accepted.{accept_of, IsTimed, last_of, trip}
+use Rattle.stamp_text.specs.Accepted.{accept_of, IsInRange, last_of, trip}
 use Rattle.stamp_text.specs.declared.lines.Stamp.{Stamp}
 use Rattle.stamp_text.proofs.AcceptedLaws.{sound-by, follows-by, accepted-push, accepted-drop}
 use Rattle.rtt_window.specs.Bases.{least_of, least_trip, judged, base_from, start_before, base_at}
@@ -61,7 +61,7 @@ trips-push xs s =
     let all : List Stamp = xs ++ s ∷ [] in
     ap last_trips (sym (map_push trip xs s)) ∙ ap (λ n. drop (n - 1024) (map trip all)) (length-map all trip) ∙ drop-map trip (length all - 1024) all
 
-pub holds-push : (xs : List Stamp) (ls ls' : lists.Kept) (count start freq : ℕ) (s : Stamp) → Holds (buffer xs 1024) ls count start freq → IsTimed s → accept_of (last_of xs) s freq ≡ Ok tt
+pub holds-push : (xs : List Stamp) (ls ls' : lists.Kept) (count start freq : ℕ) (s : Stamp) → Holds (buffer xs 1024) ls count start freq → IsInRange s → accept_of (last_of xs) s freq ≡ Ok tt
     → ls' ≡ listed (last_trips (ls.trips ++ trip s ∷ [])) (count + 1) start → Holds (buffer (keep_last 1024 (xs ++ s ∷ [])) 1024) ls' (count + 1) start freq
 holds-push xs ls ls' count start freq s holds timed e slid =
     let all : List Stamp = xs ++ s ∷ [] in

@@ -7,7 +7,7 @@ use Rattle.std.proofs.lemmas.Option.{slice_get_within, get_or_from_slice_get, so
 use Rattle.circular_buffer.specs.Buffer.{keep_last}
 use Rattle.min_lists.specs.declared.which.Which.{Which}
 use Rattle.min_lists.specs.Lists.{Span}
-use Rattle.stamp_text.specs.Accepted.{IsTimed, IsSound, Follows, AreAccepted}
+use Rattle.stamp_text.specs.Accepted.{IsInRange, IsPlausible, Follows, AreAccepted}
 use Rattle.stamp_text.specs.declared.lines.Stamp.{Stamp}
 use Rattle.stamp_text.proofs.AcceptedLaws.{accepted-drop}
 use Rattle.rtt_window.specs.Pairs.{first_least, quarter, pair_among, pair_of, ArePair}
@@ -103,10 +103,10 @@ among-accepted freq near j k are e =
     let is_j : get_or near at_j.place j ≡ j = sym (get_or-take q near at_j.place j (omega (arith, length-take q near))) ∙ get_or_from_slice_get (take q near) at_j.place j j at_j.there in
     let is_k : get_or near b j ≡ k = sym (get_or-drop (n - q) near at_k.place j) ∙ get_or_from_slice_get (keep_last q near) at_k.place k j at_k.there in
     record {
-      timed_j = subst IsTimed is_j (are.timed at_j.place j (omega arith));
-      timed_k = subst IsTimed is_k (are.timed b j b_within);
-      sound_j = subst (IsSound freq) is_j (are.sound at_j.place j (omega arith));
-      sound_k = subst (IsSound freq) is_k (are.sound b j b_within);
+      timed_j = subst IsInRange is_j (are.timed at_j.place j (omega arith));
+      timed_k = subst IsInRange is_k (are.timed b j b_within);
+      sound_j = subst (IsPlausible freq) is_j (are.sound at_j.place j (omega arith));
+      sound_k = subst (IsPlausible freq) is_k (are.sound b j b_within);
       follow = subst (λ k. Follows j k) is_k (subst (λ j'. Follows j' (get_or near b j)) is_j (are.follow at_j.place b j a_within b_within));
     }
 

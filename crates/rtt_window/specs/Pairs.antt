@@ -3,7 +3,7 @@ use Rattle.std.specs.Prelude.{◌≡◌, ℕ, ◌<◌, ◌≤◌, ◌/◌, ◌==
 use Rattle.std.specs.List.{All, slice_index_or}
 use Rattle.std.specs.Option.{option_zip}
 use Rattle.circular_buffer.specs.Buffer.{keep_last}
-use Rattle.stamp_text.specs.Accepted.{IsTimed, IsSound, Follows, trip}
+use Rattle.stamp_text.specs.Accepted.{IsInRange, IsPlausible, Follows, trip}
 use Rattle.stamp_text.specs.declared.lines.Stamp.{Stamp}
 use Rattle.rtt_window.specs.Bases.{least_of}
 
@@ -34,8 +34,8 @@ pair_of reach all = pair_among (keep_last reach all)
 
 -- two accepted stamps, the second behind the first
 pub record ArePair (freq : ℕ) (j k : Stamp) : Type 0 where
-  pub timed_j : IsTimed j
-  pub timed_k : IsTimed k
-  pub sound_j : IsSound freq j
-  pub sound_k : IsSound freq k
+  pub timed_j : IsInRange j
+  pub timed_k : IsInRange k
+  pub sound_j : IsPlausible freq j
+  pub sound_k : IsPlausible freq k
   pub follow : Follows j k

@@ -1,6 +1,6 @@
 // Levels that shift, pairs, and the window beside a plain computation over all round trips.
 ghost use Rattle.std.specs.Prelude.{◌≡◌, ◌<◌, ◌≤◌, ◌^◌, length, IfSome};
-ghost use Rattle.stamp_text.specs.Accepted.{IsTimed, last_of};
+ghost use Rattle.stamp_text.specs.Accepted.{IsInRange, last_of};
 
 use crate::{Base, Window};
 use ff_grain::{Bintime, NoMemory};
@@ -15,7 +15,7 @@ const FREQ: u64 = 1_000_000_000;
 
 // One stamp a second: that with this index and this round trip.
 fn stamp_of(i: u32, trip: u32) -> Stamp
-    ensures { IsTimed result }
+    ensures { IsInRange result }
 {
     let ta = u64::from(i) * FREQ;
     let time = Bintime {
@@ -46,7 +46,7 @@ impl Trial {
 
     fn newest(&self) -> Option<Stamp>
         ensures value { result ≡ last_of self.now.window.stamps }
-        ensures timed { IfSome result IsTimed }
+        ensures timed { IfSome result IsInRange }
     {
         match self.window.len().checked_sub(1) {
             Some(last) => Some(self.window.stamp(last)),
@@ -56,7 +56,7 @@ impl Trial {
 
     // Adds a stamp, if it is accepted.
     fn add<L: Ledger>(&mut self, s: Stamp, steps: &mut Steps<L>) -> Option<Base>
-        requires { IsTimed s }
+        requires { IsInRange s }
     {
         let newest = self.newest();
         match accept(newest.as_ref(), &s, FREQ) {

@@ -2,7 +2,7 @@
 ghost use Rattle.std.specs.Prelude.{◌≡◌, ℕ, ◌+◌, ◌-◌, ◌<◌, ◌≤◌, ◌^◌, List, [], ◌∷◌, ◌++◌, length, map, min, slice_get, slice_range, ◌↔◌, IsNone, Some, IfSome, Ok, IfOk};
 ghost use Rattle.std.specs.List.{All};
 ghost use Rattle.circular_buffer.specs.Buffer.{keep_last};
-ghost use Rattle.stamp_text.specs.Accepted.{IsTimed, IsSound, accept_of, last_of, trip};
+ghost use Rattle.stamp_text.specs.Accepted.{IsInRange, IsPlausible, accept_of, last_of, trip};
 ghost use Rattle.stamp_text.specs.declared.lines.Stamp.{Stamp};
 ghost use Rattle.rtt_window.specs.Bases.{least_of, base_at};
 ghost use Rattle.rtt_window.specs.Pairs.{first_least, pair_of, ArePair};
@@ -114,7 +114,7 @@ impl Window {
 
     // Keeps one more stamp, in the place of the oldest where there is no room.
     fn keep<L: Ledger>(&mut self, s: Stamp, steps: &mut Steps<L>)
-        requires timed { IsTimed s }
+        requires timed { IsInRange s }
         requires accepted { accept_of (last_of self.old.stamps) s self.old.freq ≡ Ok tt }
         ensures kept { self.new ≡ kept_with self.old s }
         ensures steps { steps.old ≤ steps.new }
@@ -175,7 +175,7 @@ impl Window {
 
     // Keeps one more stamp, and judges it by what is kept.
     fn judge<L: Ledger>(&mut self, s: Stamp, steps: &mut Steps<L>) -> Base
-        requires timed { IsTimed s }
+        requires timed { IsInRange s }
         requires accepted { accept_of (last_of self.old.stamps) s self.old.freq ≡ Ok tt }
         ensures judges { Judges self.old s result }
         ensures kept { self.new ≡ record (kept_with self.old s) { start = result.start } }
@@ -201,7 +201,7 @@ impl Window {
     /// A step is one comparison of two round trips. The steps and the credit together rise by twelve
     /// at most, so in the long run a stamp takes twelve steps.
     pub fn add<L: Ledger>(&mut self, s: Stamp, steps: &mut Steps<L>) -> Base
-        requires timed { IsTimed s }
+        requires timed { IsInRange s }
         requires accepted { accept_of (last_of self.old.stamps) s self.old.freq ≡ Ok tt }
         ensures kept { self.new.stamps ≡ keep_last 1024 (self.old.stamps ++ s ∷ []) }
         ensures count { self.new.count ≡ self.old.count + 1 }
@@ -233,8 +233,8 @@ impl Window {
     pub fn stamp(&self, i: usize) -> Stamp
         requires { i < length self.now.stamps }
         ensures value { slice_get self.now.stamps i ≡ Some result }
-        ensures timed { IsTimed result }
-        ensures sound { IsSound self.now.freq result }
+        ensures timed { IsInRange result }
+        ensures sound { IsPlausible self.now.freq result }
     {
         stamp_at(&self.stamps, i)
     }

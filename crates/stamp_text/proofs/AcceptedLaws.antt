@@ -8,7 +8,7 @@ use Rattle.std.proofs.lemmas.List.{get_or-drop}
 use Rattle.std.proofs.lemmas.List.Elements.{All-push, All-drop}
 use Rattle.std.proofs.lemmas.List.Quantifiers.{all_pairs_push}
 use Rattle.std.proofs.lemmas.Option.{slice_get-get_or}
-use Rattle.stamp_text.specs.Accepted.{first_that_holds, tests_of, accept_of, IsTimed, IsSound, Follows, last_of, AreAccepted}
+use Rattle.stamp_text.specs.Accepted.{first_that_holds, tests_of, accept_of, IsInRange, IsPlausible, Follows, last_of, AreAccepted}
 use Rattle.stamp_text.specs.declared.accepts.Refused.{Refused}
 use Rattle.stamp_text.specs.declared.lines.Stamp.{Stamp}
 
@@ -18,7 +18,7 @@ none-holds [] e = tt
 none-holds ((true, why) ∷ tests) e = absurd (cc)
 none-holds ((false, why) ∷ tests) e = (refl, none-holds tests e)
 
-pub sound-by : (freq : ℕ) (prev : Option Stamp) (s : Stamp) → accept_of prev s freq ≡ Ok tt → IsSound freq s
+pub sound-by : (freq : ℕ) (prev : Option Stamp) (s : Stamp) → accept_of prev s freq ≡ Ok tt → IsPlausible freq s
 unfolding accept_of
 sound-by freq prev s e =
     let none = none-holds (tests_of prev s freq) e in
@@ -36,7 +36,7 @@ follows-by freq p s e =
     record { counters = grind (arith, nat_tests); times = omega (arith, ints) }
 
 -- an accepted stamp comes behind all that its forerunner comes behind
-follows-on : (freq : ℕ) (a b c : Stamp) → Follows a b → IsSound freq b → Follows b c → Follows a c
+follows-on : (freq : ℕ) (a b c : Stamp) → Follows a b → IsPlausible freq b → Follows b c → Follows a c
 follows-on freq a b c first sound second = record {
   counters = omega (arith, first.counters, sound.counters, second.counters);
   times = omega (arith, ints, first.times, sound.times, second.times);
@@ -53,17 +53,17 @@ follows-all freq xs s are e k d here =
     ]
 
 -- one more stamp that is accepted
-pub accepted-push : (freq : ℕ) (xs : List Stamp) (s : Stamp) → AreAccepted freq xs → IsTimed s → accept_of (last_of xs) s freq ≡ Ok tt → AreAccepted freq (xs ++ s ∷ [])
+pub accepted-push : (freq : ℕ) (xs : List Stamp) (s : Stamp) → AreAccepted freq xs → IsInRange s → accept_of (last_of xs) s freq ≡ Ok tt → AreAccepted freq (xs ++ s ∷ [])
 accepted-push freq xs s are timed e = record {
-  timed = All-push IsTimed xs s are.timed timed;
-  sound = All-push (IsSound freq) xs s are.sound (sound-by freq (last_of xs) s e);
+  timed = All-push IsInRange xs s are.timed timed;
+  sound = All-push (IsPlausible freq) xs s are.sound (sound-by freq (last_of xs) s e);
   follow = all_pairs_push Follows xs s are.follow (follows-all freq xs s are e);
 }
 
 -- the stamps behind the first n
 pub accepted-drop : (freq n : ℕ) (xs : List Stamp) → AreAccepted freq xs → AreAccepted freq (drop n xs)
 accepted-drop freq n xs are = record {
-  timed = All-drop IsTimed n xs are.timed;
-  sound = All-drop (IsSound freq) n xs are.sound;
+  timed = All-drop IsInRange n xs are.timed;
+  sound = All-drop (IsPlausible freq) n xs are.sound;
   follow = λ i j d before here. rw (get_or-drop n xs i d, get_or-drop n xs j d) (are.follow (n + i) (n + j) d (omega arith) (omega (arith, length-drop n xs)));
 }

@@ -8,4 +8,3 @@ pub mod EndLaws
 pub mod RangeLaws
 pub mod GivenLaws
 pub mod AcceptedLaws
-pub mod PeriodLaws

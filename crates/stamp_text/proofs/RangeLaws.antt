@@ -1,19 +1,21 @@
 -- What a reader gives is in its range.
-use Rattle.std.proofs.Common.{◌≡◌, ℕ, ◌<◌, ◌&&◌, ◌||◌, Bool, true, false, cond, List, [], ◌∷◌, Option, None, Some, Result, Ok, Err, IfOk, IfSome, length, take, drop, codes, refl, arith, ltb, leb, eqb}
+use Rattle.std.proofs.Common.{◌≡◌, ℕ, ◌*◌, ◌/◌, ◌<◌, ◌&&◌, ◌||◌, Bool, true, false, cond, List, [], ◌∷◌, Option, None, Some, Result, Ok, Err, IfOk, IfSome, length, take, drop, codes, refl, arith, ltb, leb, eqb}
+use Rattle.std.specs.List.{list_any, before_first, after_first}
 use Rattle.std.specs.Str.{bytes_eq}
 use Rattle.std.proofs.lemmas.Bool.Decides.{nat_tests}
 use Rattle.std.proofs.lemmas.Int.{ints}
-use Rattle.ff_grain.specs.Grains.{of_nanos}
+use Rattle.ff_grain.specs.Grains.{of_nanos, IsTime}
 use Rattle.stamp_text.specs.declared.lines.Line.{Line}
 use Rattle.stamp_text.specs.declared.lines.LineFault.{LineFault}
 use Rattle.stamp_text.specs.declared.lines.Stamp.{Stamp}
 use Rattle.stamp_text.specs.declared.lines.Why.{Why}
 use Rattle.stamp_text.specs.declared.lines.Why.TheVariants as why
 use Rattle.stamp_text.specs.declared.numbers.Written.{Written}
-use Rattle.stamp_text.specs.Accepted.{IsTime, IsTimed, IsInRange}
+use Rattle.stamp_text.specs.Accepted.{IsInRange, IsLineInRange}
+use Rattle.stamp_text.proofs.DigitLaws.{nanos_of_lt}
 use Rattle.stamp_text.specs.Cut.{without_return}
 use Rattle.stamp_text.specs.Digits.{number_in}
-use Rattle.stamp_text.specs.Times.{time_in}
+use Rattle.stamp_text.specs.Times.{is_fraction, nanos_of, nanos_in, written_of, is_point, time_in}
 use Rattle.stamp_text.specs.Stamps.{pieces_of, is_empty, stamp_within, stamp_of_numbers, stamp_of_pieces, stamp_in}
 use Rattle.stamp_text.specs.Grammar.{version_says, freq_within, head_of, freq_says, is_skipped, stamp_at, entry_says, text_says, short_says, missing}
 use Rattle.stamp_text.specs.Kept.{Kept}
@@ -21,7 +23,7 @@ use Rattle.stamp_text.specs.Steps.{line_number, at_line, sound_answer, unless_fa
 
 -- an answer, with what it gives in range
 abbrev pub GivesInRange : {E : Type 0} → Result (Option Line) E → Type 0
-GivesInRange r = IfOk r (λ o. IfSome o IsInRange)
+GivesInRange r = IfOk r (λ o. IfSome o IsLineInRange)
 
 -- one of two answers, both in range
 either-in-range : {E : Type 0} (t : Bool) (a b : Result (Option Line) E) → GivesInRange a → GivesInRange b → GivesInRange (cond t a b)
@@ -47,32 +49,55 @@ freq-in-range line = elim (bytes_eq (take 5 line) (codes "freq ")) as (λ t. Giv
 all_four : (a b c d : ℕ) → (ltb a 4611686018427387904 && ltb b 4294967296 && ltb c 4294967296 && ltb d 4611686018427387904) ≡ true → (a < 4611686018427387904) × (b < 4294967296) × (c < 4294967296) × (d < 4611686018427387904)
 all_four a b c d h = grind (arith, nat_tests)
 
--- seconds below 2^32 are a time
-time-in-range : (sec nanos : ℕ) → sec < 4294967296 → IsTime (of_nanos sec nanos)
-time-in-range sec nanos h = record { low = omega (arith, ints); high = omega (arith, ints) }
+-- seconds below 2^32 and nanoseconds are a time
+time-in-range : (sec nanos : ℕ) → sec < 4294967296 → nanos < 1000000000 → IsTime (of_nanos sec nanos)
+time-in-range sec nanos h below =
+    let part : nanos * 18446744073709551616 / 1000000000 < 18446744073709551616 = omega arith in
+    record { low = omega (arith, ints); high = omega (arith, ints) }
+
+-- a time has nanoseconds below a second
+abbrev HasNanos : Option Written → Type 0
+HasNanos o = IfSome o (λ t. t.nanos < 1000000000)
+
+fraction-below : (ds : List ℕ) → IfSome (nanos_in ds) (λ n. n < 1000000000)
+fraction-below ds =
+    let split : (t : Bool) → is_fraction ds ≡ t → IfSome (cond t (Some (nanos_of ds)) None) (λ n. n < 1000000000) =
+    elim [ true ↦ λ e. nanos_of_lt ds (grind (arith, nat_tests)) (grind (arith, nat_tests)) | false ↦ λ e. tt ] in
+    split _ refl
+
+written-below : (sec nanos : Option ℕ) → IfSome nanos (λ n. n < 1000000000) → HasNanos (written_of sec nanos)
+written-below (Some sec) (Some nanos) h = h
+written-below (Some sec) None h = tt
+written-below None nanos h = tt
+
+time-below : (text : List ℕ) → HasNanos (time_in text)
+time-below text = elim (list_any is_point text) as (λ t. HasNanos (cond t (written_of (number_in (before_first is_point text)) (nanos_in (after_first is_point text))) (written_of (number_in text) (Some 0)))) [
+  | true ↦ written-below (number_in (before_first is_point text)) (nanos_in (after_first is_point text)) (fraction-below (after_first is_point text))
+  | false ↦ written-below (number_in text) (Some 0) (omega arith)
+]
 
 -- numbers that pass the test make a stamp in range
-within-in-range : (a : ℕ) (b c : Written) (d : ℕ) → IfOk (stamp_within a b c d) IsTimed
-within-in-range a b c d =
-    let split : (t : Bool) → (ltb a 4611686018427387904 && ltb b.sec 4294967296 && ltb c.sec 4294967296 && ltb d 4611686018427387904) ≡ t → IfOk {E = Why} (cond t (Ok (record { ta = a; tb = of_nanos b.sec b.nanos; te = of_nanos c.sec c.nanos; tf = d })) (Err why.Range)) IsTimed =
-    elim [ true ↦ λ e. let few = all_four a b.sec c.sec d e in record { ta = few.0; tf = few.3; tb = time-in-range b.sec b.nanos few.1; te = time-in-range c.sec c.nanos few.2 } | false ↦ λ e. tt ] in
+within-in-range : (a : ℕ) (b c : Written) (d : ℕ) → b.nanos < 1000000000 → c.nanos < 1000000000 → IfOk (stamp_within a b c d) IsInRange
+within-in-range a b c d below_b below_c =
+    let split : (t : Bool) → (ltb a 4611686018427387904 && ltb b.sec 4294967296 && ltb c.sec 4294967296 && ltb d 4611686018427387904) ≡ t → IfOk {E = Why} (cond t (Ok (record { ta = a; tb = of_nanos b.sec b.nanos; te = of_nanos c.sec c.nanos; tf = d })) (Err why.Range)) IsInRange =
+    elim [ true ↦ λ e. let few = all_four a b.sec c.sec d e in record { ta = few.0; tf = few.3; tb = time-in-range b.sec b.nanos few.1 below_b; te = time-in-range c.sec c.nanos few.2 below_c } | false ↦ λ e. tt ] in
     split _ refl
 
 -- four numbers, if they are all told, make a stamp in range
-numbers-in-range : (a : Option ℕ) (b c : Option Written) (d : Option ℕ) → IfOk (stamp_of_numbers a b c d) IsTimed
-numbers-in-range (Some a) (Some b) (Some c) (Some d) = within-in-range a b c d
-numbers-in-range _ _ _ _ = tt
+numbers-in-range : (a : Option ℕ) (b c : Option Written) (d : Option ℕ) → HasNanos b → HasNanos c → IfOk (stamp_of_numbers a b c d) IsInRange
+numbers-in-range (Some a) (Some b) (Some c) (Some d) below_b below_c = within-in-range a b c d below_b below_c
+numbers-in-range _ _ _ _ below_b below_c = tt
 
 -- pieces make a stamp in range, if they make one
-pieces-in-range : (pieces : List (List ℕ)) → IfOk (stamp_of_pieces pieces) IsTimed
-pieces-in-range (a ∷ b ∷ c ∷ d ∷ []) = elim (is_empty a || is_empty b || is_empty c || is_empty d) as (λ t. IfOk (cond t (Err why.Columns) (stamp_of_numbers (number_in a) (time_in b) (time_in c) (number_in d))) IsTimed) [
+pieces-in-range : (pieces : List (List ℕ)) → IfOk (stamp_of_pieces pieces) IsInRange
+pieces-in-range (a ∷ b ∷ c ∷ d ∷ []) = elim (is_empty a || is_empty b || is_empty c || is_empty d) as (λ t. IfOk (cond t (Err why.Columns) (stamp_of_numbers (number_in a) (time_in b) (time_in c) (number_in d))) IsInRange) [
   | true ↦ tt
-  | false ↦ numbers-in-range (number_in a) (time_in b) (time_in c) (number_in d)
+  | false ↦ numbers-in-range (number_in a) (time_in b) (time_in c) (number_in d) (time-below b) (time-below c)
 ]
 pieces-in-range _ = tt
 
 -- a line gives its stamp
-stamp-in-range : (n : ℕ) (r : Result Stamp Why) → IfOk r IsTimed → GivesInRange (stamp_at n r)
+stamp-in-range : (n : ℕ) (r : Result Stamp Why) → IfOk r IsInRange → GivesInRange (stamp_at n r)
 stamp-in-range n (Ok stamp) h = h
 stamp-in-range n (Err w) h = tt
 

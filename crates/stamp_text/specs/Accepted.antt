@@ -1,22 +1,16 @@
 -- Which stamps are accepted.
-use Rattle.std.specs.Prelude.{ℕ, pos, ◌-◌, ◌*◌, ◌<◌, ◌≤◌, ◌≤ℤ◌, ◌<ℤ◌, ◌-ℤ◌, int_lt, Bool, false, nat_le, nat_lt, if◌then◌else◌, List, [], ◌∷◌, ◌++◌, length, slice_get, Option, None, Some, Result, Ok, Err}
+use Rattle.std.specs.Prelude.{ℕ, pos, ◌-◌, ◌*◌, ◌<◌, ◌≤◌, ◌≤ℤ◌, ◌-ℤ◌, int_lt, Bool, false, nat_le, nat_lt, if◌then◌else◌, List, [], ◌∷◌, ◌++◌, length, slice_get, Option, None, Some, Result, Ok, Err}
 use Rattle.std.specs.List.{All, AllPairs}
-use Rattle.ff_grain.specs.Grains.{number_of}
-use Rattle.ff_grain.specs.declared.bintime.Bintime.{Bintime}
-use Rattle.stamp_text.specs.Periods.{highest_period}
+use Rattle.ff_grain.specs.Grains.{number_of, IsTime}
+use Rattle.ff_grain.specs.Periods.{highest_period}
 use Rattle.stamp_text.specs.declared.accepts.Refused.{Refused}
 use Rattle.stamp_text.specs.declared.accepts.Refused.TheVariants as refused
 use Rattle.stamp_text.specs.declared.lines.Line.{Line}
 use Rattle.stamp_text.specs.declared.lines.Line.TheVariants as gives
 use Rattle.stamp_text.specs.declared.lines.Stamp.{Stamp}
 
--- a time from 0 to below 2^32 s
-pub record IsTime (t : Bintime) : Type 0 where
-  pub low : pos 0 ≤ℤ t.sec
-  pub high : t.sec <ℤ pos 4294967296
-
 -- counters below 2^62, and such times
-pub record IsTimed (s : Stamp) : Type 0 where
+pub record IsInRange (s : Stamp) : Type 0 where
   pub ta : s.ta < 4611686018427387904
   pub tf : s.tf < 4611686018427387904
   pub tb : IsTime s.tb
@@ -27,9 +21,9 @@ abbrev pub trip : Stamp → ℕ
 trip s = s.tf - s.ta
 
 -- what a line gives is a head or a stamp in its ranges
-abbrev pub IsInRange : Line → Type 0
-IsInRange (gives.Head h) = (1000000 ≤ h.freq) × (h.freq ≤ 16000000000)
-IsInRange (gives.Stamp n s) = IsTimed s
+abbrev pub IsLineInRange : Line → Type 0
+IsLineInRange (gives.Head h) = (1000000 ≤ h.freq) × (h.freq ≤ 16000000000)
+IsLineInRange (gives.Stamp n s) = IsInRange s
 
 -- it was sent before the one before it was answered
 abbrev pub overlaps : Option Stamp → Stamp → Bool
@@ -66,7 +60,7 @@ accept_of prev s freq = first_that_holds (tests_of prev s freq)
 
 -- what an accepted stamp has by itself: its counters and the server's times go on, and its round
 -- trip takes at most a second
-pub record IsSound (freq : ℕ) (s : Stamp) : Type 0 where
+pub record IsPlausible (freq : ℕ) (s : Stamp) : Type 0 where
   pub counters : s.ta < s.tf
   pub times : number_of s.tb ≤ℤ number_of s.te
   pub short : trip s ≤ freq
@@ -88,6 +82,6 @@ accepted_with accepted s (Err why) = accepted
 
 -- what stamps have each of which was accepted behind the one before it
 pub record AreAccepted (freq : ℕ) (all : List Stamp) : Type 0 where
-  pub timed : All IsTimed all
-  pub sound : All (IsSound freq) all
+  pub timed : All IsInRange all
+  pub sound : All (IsPlausible freq) all
   pub follow : AllPairs Follows all

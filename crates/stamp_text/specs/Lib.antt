@@ -3,7 +3,6 @@ pub mod Digits
 pub mod Times
 pub mod Stamps
 pub mod Grammar
-pub mod Periods
 pub mod Accepted
 pub mod Kept
 pub mod Steps

@@ -1,10 +1,10 @@
 // Which stamps are accepted.
 ghost use Rattle.std.specs.Prelude.{◌≡◌, ◌≤◌, ◌<◌, ◌-◌, IfSome, OnOk};
 ghost use Rattle.std.specs.Option.{option_copied};
-ghost use Rattle.stamp_text.specs.Accepted.{IsTimed, accept_of, is_acausal};
+ghost use Rattle.stamp_text.specs.Accepted.{IsInRange, accept_of, is_acausal};
 
 use crate::lines::Stamp;
-use crate::periods::highest_period;
+use ff_grain::highest_period;
 
 /// Why a stamp is refused: the first of these tests that holds, in this order.
 #[derive(Clone, Copy, Debug, PartialEq, Eq)]
@@ -27,7 +27,7 @@ pub enum Refused {
 fn is_acausal(s: &Stamp, freq: u64) -> bool
     requires low { 1000000 ≤ freq }
     requires high { freq ≤ 16000000000 }
-    requires now { IsTimed s.now }
+    requires now { IsInRange s.now }
     requires forward { s.now.ta ≤ s.now.tf }
     requires trip { s.now.tf - s.now.ta ≤ freq }
     ensures { result ≡ is_acausal s.now freq }
@@ -44,8 +44,8 @@ fn is_acausal(s: &Stamp, freq: u64) -> bool
 pub fn accept(prev: Option<&Stamp>, s: &Stamp, freq: u64) -> Result<(), Refused>
     requires low { 1000000 ≤ freq }
     requires high { freq ≤ 16000000000 }
-    requires before { IfSome prev (λ p. IsTimed p.now) }
-    requires now { IsTimed s.now }
+    requires before { IfSome prev (λ p. IsInRange p.now) }
+    requires now { IsInRange s.now }
     ensures answer { result ≡ accept_of (option_copied prev.entry) s.now freq }
     ensures forward { OnOk result (s.now.ta < s.now.tf) }
 {

@@ -2,7 +2,7 @@
 ghost use Rattle.std.specs.Prelude.{◌≡◌, ◌≢◌, IfOk, IfErr, IfSome, OnOk, ℕ, ◌^◌, ◌<◌, List, [], ◌∷◌, ◌++◌, length, Some, Err};
 ghost use Rattle.stamp_text.specs.Cut.{without_return};
 ghost use Rattle.stamp_text.specs.Grammar.{short_says, text_says, version_says, freq_says, entry_says};
-ghost use Rattle.stamp_text.specs.Accepted.{IsInRange};
+ghost use Rattle.stamp_text.specs.Accepted.{IsLineInRange};
 
 use crate::lines::{Head, Line, LineFault, Why};
 use crate::numbers::number_of;
@@ -113,7 +113,7 @@ impl Feed {
         ensures answer { (text : List ℕ) → length text < 2 ^ 62 → StandsFor self.old text → AnswersByte text b result }
         ensures after { (text : List ℕ) → length text < 2 ^ 62 → StandsFor self.old text → StandsFor self.new (text ++ b ∷ []) }
         ensures refused { IfErr result (λ fault. (text : List ℕ) → length text < 2 ^ 62 → StandsFor self.old text → IsFaultOfAll (text ++ b ∷ []) fault) }
-        ensures ranges { IfOk result (λ line. IfSome line IsInRange) }
+        ensures ranges { IfOk result (λ line. IfSome line IsLineInRange) }
 
         // A fault is kept, and answered again.
         ensures kept { IfErr result (λ fault. self.new.fault ≡ Some fault) }
@@ -169,7 +169,7 @@ impl Feed {
     /// a stamp. The answer is a fault exactly where the file is not in the grammar.
     pub fn end(self) -> Result<Option<Line>, LineFault>
         ensures answer { (text : List ℕ) → length text < 2 ^ 62 → StandsFor self text → AnswersEnd text result }
-        ensures ranges { IfOk result (λ line. IfSome line IsInRange) }
+        ensures ranges { IfOk result (λ line. IfSome line IsLineInRange) }
         ensures again { (fault : LineFault) → self.fault ≡ Some fault → result ≡ Err fault }
     {
         self.last()

@@ -7,7 +7,6 @@ mod cuts;
 mod feed;
 mod lines;
 mod numbers;
-mod periods;
 mod stamps;
 #[cfg(test)]
 mod tests;
@@ -16,4 +15,3 @@ pub use accepts::{Refused, accept};
 pub use feed::Feed;
 pub use lines::{Head, Line, LineFault, Stamp, Why};
 pub use numbers::number_of;
-pub use periods::{highest_period, lowest_period, nominal_period};

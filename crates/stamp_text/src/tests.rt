@@ -1,6 +1,6 @@
 // Examples of the format and of the tests of a stamp, with answers from their rules.
 ghost use Rattle.std.specs.Prelude.{IfSome};
-ghost use Rattle.stamp_text.specs.Accepted.{IsTimed};
+ghost use Rattle.stamp_text.specs.Accepted.{IsInRange};
 
 use crate::{Feed, Line, LineFault, Refused, Stamp, Why, accept};
 use ff_grain::{Bintime, from_nanos};
@@ -35,7 +35,7 @@ fn read(head: &str, text: &str) -> Result<Option<Line>, LineFault> {
 
 // The stamp that a file says with this line alone behind its head.
 fn stamp(text: &str) -> Option<Stamp>
-    ensures { IfSome result IsTimed }
+    ensures { IfSome result IsInRange }
 {
     let mut feed = Feed::new();
     let _ = read_on(&mut feed, HEAD);

@@ -1,6 +1,6 @@
 // A long run of stamps, made by a small generator.
 ghost use Rattle.std.specs.Prelude.{◌<◌, ◌^◌};
-ghost use Rattle.stamp_text.specs.Accepted.{IsTime, IsTimed};
+ghost use Rattle.stamp_text.specs.Accepted.{IsTime, IsInRange};
 
 use crate::plain::rules::{FREQ, MILLISECOND, Row, Whole, highest};
 use ff_grain::Bintime;
@@ -145,7 +145,7 @@ fn time_of(x: Whole) -> Bintime
 
 /// The stamp with these numbers, which all are in their ranges.
 pub fn stamp_of(row: &Row) -> Stamp
-    ensures { IsTimed result }
+    ensures { IsInRange result }
 {
     Stamp {
         ta: count_of(row.ta),

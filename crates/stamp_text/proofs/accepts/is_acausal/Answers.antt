@@ -6,7 +6,7 @@ use mir.Syntax.{w128}
 use Rattle.std.proofs.lemmas.Int.{ints, to_z_pos}
 use Rattle.std.proofs.Math.Nat.{mul-le-mul}
 use Rattle.ff_grain.specs.Grains.{number_of}
-use Rattle.stamp_text.specs.Periods.{highest_period}
+use Rattle.ff_grain.specs.Periods.{highest_period}
 use Rattle.stamp_text.proofs.accepts.is_acausal.Goals as goal
 
 pub returns : goal.returns

@@ -2,7 +2,7 @@
 use Rattle.std.proofs.Common.{ℕ, ◌<◌, ◌≤◌, ◌^◌, ◌/◌, arith}
 use Rattle.std.proofs.Math.Nat.{div-le_of_le-mul}
 use Rattle.std.proofs.lemmas.Nat.{le-div}
-use Rattle.stamp_text.specs.Periods.{nominal_period, lowest_period, highest_period}
+use Rattle.ff_grain.specs.Periods.{nominal_period, lowest_period, highest_period}
 
 pub lowest-below : (freq : ℕ) → lowest_period freq ≤ nominal_period freq
 unfolding lowest_period

@@ -1,6 +1,6 @@
 // The periods that are believed of a counter.
 ghost use Rattle.std.specs.Prelude.{◌≡◌, ◌^◌, ◌≤◌, ◌<◌};
-ghost use Rattle.stamp_text.specs.Periods.{nominal_period, lowest_period, highest_period};
+ghost use Rattle.ff_grain.specs.Periods.{nominal_period, lowest_period, highest_period};
 
 /// The bounds of the range lie this part of the nominal period away from it.
 const PART: u64 = 2000;
