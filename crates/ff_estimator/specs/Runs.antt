@@ -1,12 +1,6 @@
 -- Whole runs of feeds, and the steps that they take.
-use Rattle.std.specs.Prelude.{◌≡◌, ℕ, ◌+◌, ◌-◌, ◌≤◌, List, [], ◌∷◌, fold}
-use Rattle.stamp_text.specs.Accepted.{accept_of, accepted_with, last_of}
-use Rattle.stamp_text.specs.declared.lines.Stamp.{Stamp}
+use Rattle.std.specs.Prelude.{◌≡◌, ℕ, ◌+◌, ◌-◌, ◌≤◌, List, [], ◌∷◌}
 use Rattle.ff_estimator.specs.Daemons.{Kept, credit}
-
--- the accepted stamps behind these and more, one after another
-abbrev pub accepted_all : ℕ → List Stamp → List Stamp → List Stamp
-accepted_all freq all more = fold (λ all s. accepted_with all s (accept_of (last_of all) s freq)) all more
 
 -- a feed, by the ledger before and after it
 pub record Feed : Type 0 where

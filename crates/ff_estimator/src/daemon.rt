@@ -1,13 +1,13 @@
 // The daemon.
 ghost use Rattle.std.specs.Prelude.{◌≡◌, ◌<◌, ◌≤◌, ◌-◌, ◌+◌, ◌*◌, ◌^◌, ℕ, List, [], ◌∷◌, ◌++◌, length, Ok, IfOk, IfSome, pos, ◌≤ℤ◌, ◌<ℤ◌};
 ghost use Rattle.std.specs.List.{All};
-ghost use Rattle.stamp_text.specs.Accepted.{IsInRange, accept_of, accepted_with, last_of};
+ghost use Rattle.stamp_text.specs.Accepted.{accepted_all, IsInRange, accept_of, accepted_with, last_of};
 ghost use Rattle.stamp_text.specs.declared.accepts.Refused.{Refused};
 ghost use Rattle.stamp_text.specs.declared.lines.Stamp.{Stamp};
 ghost use Rattle.rate_pair.specs.Rates.{IsRate};
 ghost use Rattle.ff_estimator.specs.Estimates.{full_at, fed_of};
 ghost use Rattle.ff_estimator.specs.Daemons.{StandsFor, IsBounded, count_of, mean_kept, taken_kept, credit};
-ghost use Rattle.ff_estimator.specs.Runs.{Does, accepted_all};
+ghost use Rattle.ff_estimator.specs.Runs.{Does};
 
 use crate::choices::{Taken, chosen, predicted_by};
 use crate::fulls::{Fed, Full, full_of};

@@ -1,5 +1,5 @@
 -- Which stamps are accepted.
-use Rattle.std.specs.Prelude.{ℕ, pos, ◌-◌, ◌*◌, ◌<◌, ◌≤◌, ◌≤ℤ◌, ◌-ℤ◌, int_lt, Bool, false, nat_le, nat_lt, if◌then◌else◌, List, [], ◌∷◌, ◌++◌, length, slice_get, Option, None, Some, Result, Ok, Err}
+use Rattle.std.specs.Prelude.{ℕ, pos, ◌-◌, ◌*◌, ◌<◌, ◌≤◌, ◌≤ℤ◌, ◌-ℤ◌, int_lt, Bool, false, nat_le, nat_lt, if◌then◌else◌, List, [], ◌∷◌, ◌++◌, length, fold, slice_get, Option, None, Some, Result, Ok, Err}
 use Rattle.std.specs.List.{All, AllPairs}
 use Rattle.ff_grain.specs.Grains.{number_of, IsTime}
 use Rattle.ff_grain.specs.Periods.{highest_period}
@@ -79,6 +79,11 @@ last_of all = slice_get all (length all - 1)
 abbrev pub accepted_with : List Stamp → Stamp → Result (Unit {0}) Refused → List Stamp
 accepted_with accepted s (Ok o) = accepted ++ s ∷ []
 accepted_with accepted s (Err why) = accepted
+
+-- the accepted stamps behind accepted ones and more stamps, each of which is tested against the last
+-- accepted one before it
+abbrev pub accepted_all : ℕ → List Stamp → List Stamp → List Stamp
+accepted_all freq accepted more = fold (λ all s. accepted_with all s (accept_of (last_of all) s freq)) accepted more
 
 -- what stamps have each of which was accepted behind the one before it
 pub record AreAccepted (freq : ℕ) (all : List Stamp) : Type 0 where

@@ -1,7 +1,7 @@
 use Rattle.std.proofs.Common.{ℕ, ◌+◌, ◌*◌, ◌≤◌, List, take}
 use Rattle.stamp_text.specs.declared.lines.Stamp.{Stamp}
 use Rattle.ff_estimator.specs.Daemons.{StandsFor, credit}
-use Rattle.ff_estimator.specs.Runs.{accepted_all}
+use Rattle.stamp_text.specs.Accepted.{accepted_all}
 use Rattle.ff_estimator.proofs.daemon.Daemon.feed_all.Given as goal
 
 abbrev pub invariant-loop-s : goal.invariant-loop-s
