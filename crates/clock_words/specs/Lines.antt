@@ -1,9 +1,10 @@
 -- The lines of the program: the name of a command, and what its row has behind it.
-use Rattle.std.specs.Prelude.{ℕ, ◌<◌, ◌≤◌, ◌^◌, ◌-◌, Bool, false, nat_le, if◌then◌else◌, List, [], ◌∷◌, Option, None, Some, codes, option_map, option_and_then}
+use Rattle.std.specs.Prelude.{◌≡◌, ℕ, ◌<◌, ◌≤◌, ◌^◌, ◌-◌, Bool, false, nat_le, if◌then◌else◌, List, [], ◌∷◌, Option, None, Some, codes, option_map, option_and_then}
 use Rattle.std.specs.Option.{option_zip}
 use Rattle.std.specs.Str.{bytes_eq}
 use Rattle.stamp_text.specs.Digits.{number_in}
 use Rattle.clock_words.specs.Rows.{Text, Row, Item, has, value_of, items_in}
+use Rattle.clock_words.specs.Parts.{AreWritten}
 use Rattle.clock_words.specs.declared.commands.Command.{Command}
 use Rattle.clock_words.specs.declared.commands.Command.TheVariants as command
 use Rattle.clock_words.specs.declared.commands.Report.{Report}
@@ -92,12 +93,20 @@ unfoldable pub command_in : List Text → Option Command
 command_in [] = None
 command_in (name ∷ words) = command_named name words
 
+-- the words are a line of the program, which is this command
+pub data IsLine : List Text → Command → Type 0 where
+  stamps : IsLine (codes "stamps" ∷ []) (command.Report report.Stamps)
+  rtt : IsLine (codes "rtt" ∷ []) (command.Report report.Rtt)
+  estimate : IsLine (codes "estimate" ∷ []) (command.Report report.Estimate)
+  ticks : (words : List Text) (items : List Item) (n : ℕ) → AreWritten ticks_row words items → option_within 0 most_ticks 4 (value_of ticks_name items) ≡ Some n → IsLine (codes "ticks" ∷ words) (command.Report (report.Ticks n))
+  make : (first second : Text) (number count : ℕ) → number_within 0 (2 ^ 32 - 1) first ≡ Some number → number_within 1 most_made second ≡ Some count → IsLine (codes "make" ∷ first ∷ second ∷ []) (command.Make number count)
+
 -- the numbers of a report are in their ranges
 abbrev pub IsReportInRange : Report → Type 0
 IsReportInRange report.Stamps = Unit {0}
 IsReportInRange report.Rtt = Unit {0}
 IsReportInRange report.Estimate = Unit {0}
-IsReportInRange (report.Ticks ticks) = ticks ≤ most_ticks
+IsReportInRange (report.Ticks n) = n ≤ most_ticks
 
 -- the numbers of a command are in their ranges
 abbrev pub IsCommandInRange : Command → Type 0

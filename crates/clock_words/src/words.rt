@@ -1,9 +1,10 @@
 // The lines of the program.
-ghost use Rattle.std.specs.Prelude.{◌≡◌, ◌≤◌, ◌<◌, ◌^◌, ◌-◌, IfOk, IfErr, OnErr, IfSome, true, map, option_map, option_and_then};
+ghost use Rattle.std.specs.Prelude.{◌≡◌, ◌↔◌, ◌≤◌, ◌<◌, ◌^◌, ◌-◌, IfOk, IfErr, OnErr, IfSome, Some, true, map, option_map, option_and_then};
 ghost use Rattle.clap.specs.Values.{kind_of};
 ghost use Rattle.clock_words.specs.Rows.{has, items_in};
+ghost use Rattle.clock_words.specs.declared.commands.Command.{Command};
 ghost use Rattle.clock_words.specs.declared.commands.Command.TheVariants as command;
-ghost use Rattle.clock_words.specs.Lines.{IsReportInRange, IsCommandInRange, bare_row, ticks_row, make_row, number_within, ticks_of, make_of, command_names, begins_with_name, command_named, command_in};
+ghost use Rattle.clock_words.specs.Lines.{IsLine, IsReportInRange, IsCommandInRange, bare_row, ticks_row, make_row, number_within, ticks_of, make_of, command_names, begins_with_name, command_named, command_in};
 
 use crate::{Command, Report, rows};
 use clap::Error;
@@ -113,16 +114,27 @@ fn command_named<'a>(
     }
 }
 
+// The command that words are, if they are a line.
+#[tactic(auto, unfolding(crate::specs::Lines::command_in))]
+fn parse<'a>(alloc: Global, words: &'a [&'a str]) -> Result<Option<Command>, Error>
+    ensures value { IfOk result (λ found. found ≡ command_in (map (λ w. w.now) words.entry.now)) }
+    ensures ranged { IfOk result (λ found. IfSome found IsCommandInRange) }
+    ensures named { OnErr result (begins_with_name (map (λ w. w.now) words.entry.now) ≡ true) }
+    ensures memory { IfErr result (λ e. kind_of e ≡ ErrorKind.OutOfMemory) }
+{
+    match words.split_first() {
+        Some((name, rest)) => command_named(alloc, name, rest),
+        None => Ok(None),
+    }
+}
+
 /// The command that the words after the program's name are, if they are a line. The error is want
 /// of memory, which comes only behind the name of a command.
-#[tactic(auto, unfolding(crate::specs::Lines::command_in))]
 pub fn command_of<'a>(alloc: Global, words: &'a [&'a str]) -> Result<Option<Command>, NoMemory>
+    ensures line { IfOk result (λ found. (c : Command) → (found ≡ Some c) ↔ IsLine (map (λ w. w.now) words.entry.now) c) }
     ensures value { IfOk result (λ found. found ≡ command_in (map (λ w. w.now) words.entry.now)) }
     ensures ranged { IfOk result (λ found. IfSome found IsCommandInRange) }
     ensures memory { OnErr result (begins_with_name (map (λ w. w.now) words.entry.now) ≡ true) }
 {
-    match words.split_first() {
-        Some((name, rest)) => command_named(alloc, name, rest).map_err(|_| NoMemory),
-        None => Ok(None),
-    }
+    parse(alloc, words).map_err(|_| NoMemory)
 }
