@@ -69,6 +69,7 @@ impl<R: Reader> Source for StdSource<R> {
 
     ghost cause = { λ old new room room' r gives. gives.settled.cause };
 
+    #[tactic(auto, using(crate::proofs::Settled::pull_of))]
     fn pull(&mut self, room: &mut [u8]) -> Result<usize, Failed> {
         settle_read(self.reader.read_once(room), &mut self.faults)
     }

@@ -1,13 +1,11 @@
 use Rattle.std.proofs.Common.{◌≡◌, length}
-use Rattle.rad_io.specs.Streams.{Taken}
 use Rattle.rad_io.proofs.Written.{Passed}
 use Rattle.rad_io.proofs.streams.StdSinkSink.push.Given as goal
 
 abbrev pub invariant-loop-rest : goal.invariant-loop-rest
 invariant-loop-rest g l = record {
   same : l.self.faults ≡ l.initial.self.faults;
-  taken : Taken g.W.Writer.write_gives l.initial.self.writer l.piece l.rest l.self.writer;
-  passed : Passed (g.W.Writer.contents l.initial.self.writer) (g.W.Writer.contents l.self.writer) l.piece l.rest;
+  passed : Passed g.W.Writer.contents g.W.Writer.write_gives l.initial.self.writer l.piece l.rest l.self.writer;
 }
 
 abbrev pub decreases-loop-rest : goal.decreases-loop-rest
