@@ -1,7 +1,40 @@
-// What follows of whole runs.
-ghost use Rattle.std.specs.Prelude.{◌≡◌, ℕ, ◌*◌, ◌≤◌, List, [], length, sum_by};
+// What holds of all that is said of accepted stamps, and of whole runs.
+ghost use Rattle.std.specs.Prelude.{◌≡◌, ℕ, ◌*◌, ◌<◌, ◌≤◌, List, [], ◌∷◌, ◌++◌, length, map, slice_get, Some, sum_by};
+ghost use Rattle.std.specs.List.{All};
+ghost use Rattle.stamp_text.specs.Accepted.{AreAccepted};
+ghost use Rattle.stamp_text.specs.declared.lines.Stamp.{Stamp};
+ghost use Rattle.rate_pair.specs.Rates.{IsRate};
 ghost use Rattle.ff_estimator.specs.Daemons.{Kept, StandsFor};
+ghost use Rattle.ff_estimator.specs.Estimates.{full_at};
+ghost use Rattle.ff_estimator.specs.Folds.{fold_of, estimates_of, AreTaken};
+ghost use Rattle.ff_estimator.specs.Rates.{rate_over, rate_in_use};
 ghost use Rattle.ff_estimator.specs.Runs.{Feed, Run, raised};
+
+/// The law that one more accepted stamp adds to what a daemon says what it says at that stamp, and changes
+/// nothing before it.
+pub fn folds_grow()
+    ensures { (freq : ℕ) (all : List Stamp) (s : Stamp) → fold_of freq (all ++ s ∷ []) ≡ fold_of freq all ++ full_at freq (all ++ s ∷ []) (length all) ∷ [] }
+{}
+
+/// The law that one thing is said at each accepted stamp, and its estimate is of the count of the stamp's
+/// reply.
+pub fn each_stamp_has_an_estimate()
+    ensures at { (freq : ℕ) (all : List Stamp) (i : ℕ) → i < length all → slice_get (fold_of freq all) i ≡ Some (full_at freq all i) }
+    ensures counts { (freq : ℕ) (all : List Stamp) → map (λ f. f.est.update_ffcount) (fold_of freq all) ≡ map (λ s. s.tf) all }
+{}
+
+/// The law that a clock can take the estimates of accepted stamps one after another.
+pub fn estimates_can_be_taken()
+    ensures { (freq : ℕ) (all : List Stamp) → 1000000 ≤ freq → AreAccepted freq all → AreTaken (estimates_of (fold_of freq all)) }
+{}
+
+/// The law that the rates at accepted stamps are within their bounds: that which is said, that over the
+/// last stamps, as many as `reach`, and that by which the mean is taken.
+pub fn rates_are_believed()
+    ensures said { (freq : ℕ) (all : List Stamp) → AreAccepted freq all → All (λ f. IsRate freq f.rate) (fold_of freq all) }
+    ensures over { (reach freq : ℕ) (all : List Stamp) (i : ℕ) → AreAccepted freq all → IsRate freq (rate_over reach freq all i) }
+    ensures in_use { (freq : ℕ) (all : List Stamp) (i : ℕ) → AreAccepted freq all → IsRate freq (rate_in_use freq all i) }
+{}
 
 /// The law of whole runs: on a new daemon, n calls of `feed` raise the ledger by 12n at most, whatever
 /// else the ledger counts between them. It holds of each ledger.
