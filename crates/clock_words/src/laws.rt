@@ -9,11 +9,9 @@ ghost use Rattle.clock_words.specs.Parts.{AreWritten, is_clear};
 /// that are not written so are none.
 pub fn items_are_written()
     ensures { (row : Row) → is_clear row ≡ true → (words : List Text) (items : List Item) → (items_in row words ≡ Some items) ↔ AreWritten row words items }
-{
-}
+{}
 
 /// Words are a command exactly where they are a line of it.
 pub fn commands_are_lines()
     ensures { (words : List Text) (c : Command) → (command_in words ≡ Some c) ↔ IsLine words c }
-{
-}
+{}
