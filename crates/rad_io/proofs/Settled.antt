@@ -1,5 +1,5 @@
 -- What follows of a pull from the answer of its read.
-use Rattle.std.proofs.Common.{◌≡◌, ℕ, List, Option, Result, Ok, Err, rules}
+use Rattle.std.proofs.Common.{ℕ, List, Option, Result, Ok, Err, rules}
 use Rattle.std.specs.Prelude.{IsErr}
 use Rattle.std.specs.Io.{ReadsAtMost}
 use Rattle.std.specs.Io.KnownBytes.{ReadConsumes}

@@ -61,7 +61,8 @@ impl<R: Reader> Source for StdSource<R> {
     ghost faults = { λ s. s.faults };
 
     ghost pull_gives = { λ old room r room' new.
-        ReaderGives R.remaining R.read_gives old.reader room old.faults new.faults r room' new.reader };
+        ReaderGives R.remaining R.read_gives old.reader room
+        old.faults new.faults r room' new.reader };
 
     ghost within = { λ old new room room' r gives. gives.within };
 

@@ -34,8 +34,8 @@ fn a_writer_is_a_sink(rt: HostRuntime) {
     assert_eq!(rt; bytes.as_slice(), b"grain s ".as_slice());
 }
 
-// A stream whose reads give, and whose writes take, the most bytes that stand in `most` one after the
-// other, and fail at a `None` and after the last.
+// A stream whose reads give, and whose writes take, at most the bytes that stand in `most` one after
+// the other, and fail at a `None` and after the last.
 #[derive(Drop)]
 struct Script<'a> {
     most: &'a [Option<usize>],
@@ -70,10 +70,28 @@ impl Write for Script<'_> {
 #[test]
 fn each_pull_is_one_read(rt: HostRuntime) {
     let mut script = Script {
-        most: &[Some(2), None, Some(9), None, None, Some(1), Some(0), Some(3)],
+        most: &[
+            Some(2),
+            None,
+            Some(9),
+            None,
+            None,
+            Some(1),
+            Some(0),
+            Some(3),
+        ],
         calls: 0,
     };
-    let wanted = [Ok(2), Err(Failed), Ok(4), Err(Failed), Err(Failed), Ok(1), Ok(0), Ok(3)];
+    let wanted = [
+        Ok(2),
+        Err(Failed),
+        Ok(4),
+        Err(Failed),
+        Err(Failed),
+        Ok(1),
+        Ok(0),
+        Ok(3),
+    ];
     let mut source = StdSource::new(&mut script);
     let mut room = [0u8; 4];
     for (number, want) in wanted.iter().enumerate() {
@@ -87,7 +105,16 @@ fn each_pull_is_one_read(rt: HostRuntime) {
 #[test]
 fn a_push_writes_until_a_fault(rt: HostRuntime) {
     let mut script = Script {
-        most: &[Some(2), Some(9), None, Some(1), None, Some(9), Some(0), Some(3)],
+        most: &[
+            Some(2),
+            Some(9),
+            None,
+            Some(1),
+            None,
+            Some(9),
+            Some(0),
+            Some(3),
+        ],
         calls: 0,
     };
     let wanted = [
