@@ -18,6 +18,14 @@ pub record IsFirstLeast (all : List Stamp) (s : Stamp) : Type 0 where
   pub least : All (λ other. trip s ≤ trip other) all
   pub first : (k : ℕ) (d : Stamp) → k < place → trip s < trip (slice_index_or all k d)
 
+-- j stands before k in this list
+pub record StandBefore (all : List Stamp) (j k : Stamp) : Type 0 where
+  pub first : ℕ
+  pub second : ℕ
+  pub order : first < second
+  pub at_first : slice_get all first ≡ Some j
+  pub at_second : slice_get all second ≡ Some k
+
 -- a quarter of so many, and at least one
 abbrev pub quarter : ℕ → ℕ
 quarter n = max 1 (n / 4)
