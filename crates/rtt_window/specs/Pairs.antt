@@ -30,11 +30,14 @@ pub record StandBefore (all : List Stamp) (j k : Stamp) : Type 0 where
 abbrev pub quarter : ℕ → ℕ
 quarter n = max 1 (n / 4)
 
--- the first of least round trip in the first quarter, and that in the last quarter; a pair has two stamps
+-- the first of least round trip in the first quarter, and that in the last quarter; a pair has two
+-- stamps
 unfoldable pub pair_among : List Stamp → Option (Stamp × Stamp)
 pair_among near =
     if nat_lt (length near) 2 then None
-    else option_zip (first_least (take (quarter (length near)) near)) (first_least (keep_last (quarter (length near)) near))
+    else option_zip
+    (first_least (take (quarter (length near)) near))
+    (first_least (keep_last (quarter (length near)) near))
 
 -- the pair among the last stamps, as many as `reach`
 abbrev pub pair_of : ℕ → List Stamp → Option (Stamp × Stamp)

@@ -7,7 +7,10 @@ use Rattle.rtt_window.specs.Pairs.{quarter}
 
 -- the first and the last quarter of the last `most` of so many indices
 abbrev pub first_quarter : ℕ → ℕ → Span
-first_quarter most count = record { from = count - most; to = min count (count - most + quarter (min most count)) }
+first_quarter most count = record {
+  from = count - most;
+  to = min count (count - most + quarter (min most count));
+}
 
 abbrev pub last_quarter : ℕ → ℕ → Span
 last_quarter most count = record { from = count - quarter (min most count); to = count }

@@ -18,6 +18,10 @@ pub record Kept : Type 0 where
   pub start : ℕ
   pub freq : ℕ
 
+-- nothing was added
+abbrev pub nothing : ℕ → Kept
+nothing freq = record { stamps = []; count = 0; start = 0; freq = freq }
+
 -- a window that keeps this may have been given these stamps, at this frequency
 pub record StandsFor (k : Kept) (freq : ℕ) (all : List Stamp) : Type 0 where
   pub at : k.freq ≡ freq
@@ -52,7 +56,8 @@ least_in k which = least_of (map trip (stamps_in k which))
 
 -- what is said of the newest stamp, by the windows
 abbrev pub judged_in : Kept → Base
-judged_in k = judged k.freq k.start (k.count - 1) (least_in k windows.Base) (least_in k windows.Recent)
+judged_in k =
+    judged k.freq k.start (k.count - 1) (least_in k windows.Base) (least_in k windows.Recent)
 
 -- the credit of a window, that of its lists: the steps that it may still take beside twelve for each
 -- stamp that is added

@@ -6,7 +6,7 @@ ghost use Rattle.stamp_text.specs.Accepted.{IsInRange, IsPlausible, accept_of, l
 ghost use Rattle.stamp_text.specs.declared.lines.Stamp.{Stamp};
 ghost use Rattle.rtt_window.specs.Bases.{base_at};
 ghost use Rattle.rtt_window.specs.Pairs.{first_least, pair_of, ArePair};
-ghost use Rattle.rtt_window.specs.Windows.{StandsFor, HasStamp, kept_with, stamps_in, least_in, judged_in, credit};
+ghost use Rattle.rtt_window.specs.Windows.{nothing, StandsFor, HasStamp, kept_with, stamps_in, least_in, judged_in, credit};
 
 use crate::bases::{Base, judged};
 use crate::spans::{WIDE, left_end, quarter, slide};
@@ -99,7 +99,7 @@ impl Window {
     pub fn new(alloc: Global, freq: u64) -> Result<Window, NoMemory>
         requires low { 1000000 ≤ freq }
         requires high { freq ≤ 16000000000 }
-        ensures kept { IfOk result (λ w. w ≡ record { stamps = []; count = 0; start = 0; freq = freq }) }
+        ensures kept { IfOk result (λ w. w ≡ nothing freq) }
         ensures stands { IfOk result (λ w. StandsFor w freq []) }
         ensures credit { IfOk result (λ w. credit w ≡ 0) }
     {
