@@ -70,7 +70,7 @@ window-listed trips count start NearOld = refl
 window-listed trips count start NearNew = refl
 
 -- each window has indices of the last 1,024 stamps
-span-kept : (count start : ℕ) (which : Which) → (count - 1024 ≤ (span_of count start which).from) × ((span_of count start which).to ≤ count)
+pub span-kept : (count start : ℕ) (which : Which) → (count - 1024 ≤ (span_of count start which).from) × ((span_of count start which).to ≤ count)
 span-kept count start Base = (omega arith, omega arith)
 span-kept count start Recent = (omega arith, omega arith)
 span-kept count start WideOld = (omega arith, omega arith)
