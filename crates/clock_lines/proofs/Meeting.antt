@@ -1,13 +1,13 @@
 -- What the uninterrupted clocks read, as numbers, and where two ticks meet.
-use Rattle.std.proofs.Common.{◌≡◌, ◌≢◌, ℕ, ◌+◌, ◌-◌, ◌*◌, List, slice_get, Some, ℤ, pos, ◌+ℤ◌, ◌-ℤ◌, sym, ap, ◌∙◌, arith}
+use Rattle.std.proofs.Common.{◌≡◌, ◌≢◌, ℕ, ◌-◌, ◌*◌, ℤ, pos, ◌+ℤ◌, ◌-ℤ◌, sym, ap, ◌∙◌, arith}
 use Rattle.std.proofs.lemmas.Int.{ints}
 use Rattle.ff_grain.specs.Grains.{number_of}
-use Rattle.ff_hands.specs.Journals.{IsJournal}
+use Rattle.ff_hands.specs.Journals.{Follows}
 use Rattle.ff_hands.specs.Windups.{moved_lerp}
 use Rattle.ff_hands.specs.declared.hands.Hands.{Hands}
 use Rattle.ff_hands.specs.declared.hands.How.TheVariants as how
 use Rattle.ff_hands.proofs.Winding.{number_of-of_grains}
-use Rattle.ff_hands.proofs.Ticks.{tick-line, tick-uptime}
+use Rattle.ff_hands.proofs.Ticks.{follows-line, follows-uptime}
 use Rattle.clock_lines.specs.Values.{value_of}
 use Rattle.clock_lines.specs.declared.readings.Kind.TheVariants as kind
 
@@ -30,9 +30,9 @@ unmoved h =
     omega (arith, ints)
 
 -- at the count of the next tick that one and the tick before it read the same
-pub line-meets : (ticks : List Hands) (n : ℕ) (h next : Hands) → IsJournal ticks → slice_get ticks n ≡ Some h → slice_get ticks (n + 1) ≡ Some next → next.how ≢ how.Reset → next.how ≢ how.Jump → number_of (value_of next kind.Mono next.count) ≡ number_of (value_of h kind.Mono next.count)
-line-meets ticks n h next is at then not_reset not_jump = mono-is next next.count ∙ unmoved next ∙ tick-line ticks n h next is at then not_reset not_jump ∙ sym (mono-is h next.count)
+pub line-meets : (h next : Hands) → Follows h next → next.how ≢ how.Reset → next.how ≢ how.Jump → number_of (value_of next kind.Mono next.count) ≡ number_of (value_of h kind.Mono next.count)
+line-meets h next follows not_reset not_jump = mono-is next next.count ∙ unmoved next ∙ follows-line h next follows not_reset not_jump ∙ sym (mono-is h next.count)
 
-pub uptime-meets : (ticks : List Hands) (n : ℕ) (h next : Hands) → IsJournal ticks → slice_get ticks n ≡ Some h → slice_get ticks (n + 1) ≡ Some next → next.how ≢ how.Reset → number_of (value_of next kind.Uptime next.count) ≡ number_of (value_of h kind.Uptime next.count)
-uptime-meets ticks n h next is at then not_reset =
-    uptime-is next next.count ∙ ap (λ z. z -ℤ number_of next.boot) (unmoved next) ∙ tick-uptime ticks n h next is at then not_reset ∙ sym (uptime-is h next.count)
+pub uptime-meets : (h next : Hands) → Follows h next → next.how ≢ how.Reset → number_of (value_of next kind.Uptime next.count) ≡ number_of (value_of h kind.Uptime next.count)
+uptime-meets h next follows not_reset =
+    uptime-is next next.count ∙ ap (λ z. z -ℤ number_of next.boot) (unmoved next) ∙ follows-uptime h next follows not_reset ∙ sym (uptime-is h next.count)
