@@ -4,7 +4,7 @@ use Rattle.std.proofs.lemmas.List.Sorted.{IsNonDecreasingBy-from_all_adjacent}
 use Rattle.std.proofs.lemmas.Option.{slice_get-get_or}
 use Rattle.std.specs.List.Sorted.{IsNonDecreasingBy}
 use Rattle.ff_grain.specs.Grains.{number_of}
-use Rattle.ff_hands.specs.Journals.{order_of, IsJournal, IsSound}
+use Rattle.ff_hands.specs.Journals.{order_of, Follows, IsJournal, IsSound}
 use Rattle.ff_hands.specs.Orders.{is_sane_estimate, fits}
 use Rattle.ff_hands.specs.Windups.{jumps, moved_lerp, take_jump, take_on, wind_of}
 use Rattle.ff_hands.specs.declared.hands.Hands.{Hands}
@@ -41,16 +41,14 @@ journal-rises ticks is = IsNonDecreasingBy-from_all_adjacent (λ (h : Hands). h.
     let follows = is.next k (get_or ticks k d) (get_or ticks (k + 1) d) at then in
     (fits-on (get_or ticks k d) _ (order_of (get_or ticks (k + 1) d)) follows.fits).later)
 
--- but for resets and jumps the uninterrupted clock goes on from tick to tick
-pub tick-line : (ticks : List Hands) (n : ℕ) (h next : Hands) → IsJournal ticks → slice_get ticks n ≡ Some h → slice_get ticks (n + 1) ≡ Some next → next.how ≢ how.Reset → next.how ≢ how.Jump → number_of next.lerp ≡ moved_lerp h next.count
-tick-line ticks n h next is at then not_reset not_jump =
-    let follows = is.next n h next at then in
+-- but for resets and jumps the uninterrupted clock goes on where it is
+pub follows-line : (h next : Hands) → Follows h next → next.how ≢ how.Reset → next.how ≢ how.Jump → number_of next.lerp ≡ moved_lerp h next.count
+follows-line h next follows not_reset not_jump =
     let line = line-goes_on h next.count (order_of next) (subst (λ t. t.how ≢ how.Reset) follows.wound not_reset) (subst (λ t. t.how ≢ how.Jump) follows.wound not_jump) in
     ap (λ (t : Hands). number_of t.lerp) follows.wound ∙ line
 
 -- but for resets the uptime goes on
-pub tick-uptime : (ticks : List Hands) (n : ℕ) (h next : Hands) → IsJournal ticks → slice_get ticks n ≡ Some h → slice_get ticks (n + 1) ≡ Some next → next.how ≢ how.Reset → number_of next.lerp -ℤ number_of next.boot ≡ moved_lerp h next.count -ℤ number_of h.boot
-tick-uptime ticks n h next is at then not_reset =
-    let follows = is.next n h next at then in
+pub follows-uptime : (h next : Hands) → Follows h next → next.how ≢ how.Reset → number_of next.lerp -ℤ number_of next.boot ≡ moved_lerp h next.count -ℤ number_of h.boot
+follows-uptime h next follows not_reset =
     let line = uptime-goes_on h next.count (order_of next) (subst (λ t. t.how ≢ how.Reset) follows.wound not_reset) in
     ap (λ (t : Hands). number_of t.lerp -ℤ number_of t.boot) follows.wound ∙ line

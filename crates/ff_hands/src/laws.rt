@@ -1,5 +1,5 @@
 // What holds of windups, of journals, and of all hands that stand in one.
-ghost use Rattle.std.specs.Prelude.{◌≡◌, ◌≢◌, ℕ, ◌+◌, ◌-◌, true, List, [], ◌∷◌, ◌++◌, length, slice_get, Some, ◌-ℤ◌};
+ghost use Rattle.std.specs.Prelude.{◌≡◌, ◌≢◌, ℕ, ◌-◌, true, List, [], ◌∷◌, ◌++◌, length, slice_get, Some, ◌-ℤ◌};
 ghost use Rattle.std.specs.List.Sorted.{IsNonDecreasingBy};
 ghost use Rattle.ff_grain.specs.Grains.{number_of};
 ghost use Rattle.ff_hands.specs.Bounds.{IsBounded};
@@ -54,9 +54,9 @@ pub fn estimates_are_sane()
     ensures { (h : Hands) → IsSound h → is_sane_estimate h.est ≡ true }
 {}
 
-/// The law that the uninterrupted clock goes on from tick to tick of a journal, but for resets and the
-/// jumps of a warm-up, and the uptime but for resets.
+/// The law that from tick to tick of a journal the uninterrupted clock goes on where it is, but for resets
+/// and the jumps of a warm-up, and the uptime but for resets.
 pub fn clocks_go_on()
-    ensures line { (ticks : List Hands) (n : ℕ) (h next : Hands) → IsJournal ticks → slice_get ticks n ≡ Some h → slice_get ticks (n + 1) ≡ Some next → next.how ≢ how.Reset → next.how ≢ how.Jump → number_of next.lerp ≡ moved_lerp h next.count }
-    ensures uptime { (ticks : List Hands) (n : ℕ) (h next : Hands) → IsJournal ticks → slice_get ticks n ≡ Some h → slice_get ticks (n + 1) ≡ Some next → next.how ≢ how.Reset → number_of next.lerp -ℤ number_of next.boot ≡ moved_lerp h next.count -ℤ number_of h.boot }
+    ensures line { (h next : Hands) → Follows h next → next.how ≢ how.Reset → next.how ≢ how.Jump → number_of next.lerp ≡ moved_lerp h next.count }
+    ensures uptime { (h next : Hands) → Follows h next → next.how ≢ how.Reset → number_of next.lerp -ℤ number_of next.boot ≡ moved_lerp h next.count -ℤ number_of h.boot }
 {}
