@@ -1,16 +1,19 @@
 -- The estimates of accepted stamps can be taken by a clock one after another.
-use Rattle.std.proofs.Common.{◌≡◌, ℕ, zero, suc, ◌+◌, ◌<◌, ◌≤◌, true, List, [], ◌∷◌, ◌++◌, length, map, get_or, slice_get, Some, refl, sym, ap, ap₂, ◌∙◌, subst, arith}
+use Rattle.std.proofs.Common.{◌≡◌, ℕ, zero, suc, ◌+◌, ◌<◌, ◌≤◌, true, List, [], ◌∷◌, ◌++◌, length, map, get_or, slice_get, Some, Result, Ok, Err, refl, sym, ap, ap₂, ◌∙◌, subst, arith}
 use Rattle.std.specs.List.{All, AllPairs, range_with_len}
 use Rattle.std.proofs.lemmas.List.{length_push, length-map, get_or-map, ext_get_or}
 use Rattle.std.proofs.lemmas.Option.{slice_get-get_or}
 use Rattle.std.proofs.lemmas.List.FromFn.{length-map-range_with_len, get_or-map-range_with_len, map-range_with_len_more}
-use Rattle.stamp_text.specs.Accepted.{AreAccepted}
+use Rattle.stamp_text.specs.Accepted.{IsInRange, AreAccepted, accept_of, accepted_with, last_of}
+use Rattle.stamp_text.specs.declared.accepts.Refused.{Refused}
 use Rattle.stamp_text.specs.declared.lines.Stamp.{Stamp}
+use Rattle.stamp_text.proofs.AcceptedLaws.{accepted-push}
 use Rattle.ff_hands.specs.Orders.{is_sane_estimate}
 use Rattle.rate_pair.specs.Rates.{IsRate}
 use Rattle.ff_estimator.specs.Means.{count_at}
-use Rattle.ff_estimator.specs.Estimates.{full_at}
+use Rattle.ff_estimator.specs.Estimates.{full_at, fed_by, fed_of}
 use Rattle.ff_estimator.specs.declared.fulls.Full.{Full}
+use Rattle.ff_estimator.specs.declared.fulls.Fed.TheVariants as fed
 use Rattle.ff_estimator.proofs.Prefixes.{full_at-append}
 use Rattle.ff_estimator.specs.Folds.{fold_of, estimates_of, AreOf, AreTaken}
 use Rattle.ff_estimator.proofs.Taken.{are-taken}
@@ -91,12 +94,37 @@ fold-counts freq all =
     let others = length-map all (λ (s : Stamp). s.tf) in
     let whole = length-fold_of freq all in
     ext_get_or 0 _ _ (omega arith) (λ i within. (
-      let here : i < length all = omega arith in
-      let d : Full = full_at freq all i in
-      get_or-map (λ (f : Full). f.est.update_ffcount) (fold_of freq all) i d 0 (omega arith) ∙ ap (λ (f : Full). f.est.update_ffcount) (get_or-fold_of freq all i d here) ∙ full-count freq all i
+    let here : i < length all = omega arith in
+    let d : Full = full_at freq all i in
+    get_or-map (λ (f : Full). f.est.update_ffcount) (fold_of freq all) i d 0 (omega arith) ∙ ap (λ (f : Full). f.est.update_ffcount) (get_or-fold_of freq all i d here) ∙ full-count freq all i
     ))
 
 pub fold-at : (freq : ℕ) (all : List Stamp) (i : ℕ) → i < length all → slice_get (fold_of freq all) i ≡ Some (full_at freq all i)
 fold-at freq all i here =
     let d : Full = full_at freq all i in
     slice_get-get_or (fold_of freq all) i d (omega (arith, length-fold_of freq all)) ∙ ap Some (get_or-fold_of freq all i d here)
+
+-- nothing was said of no stamps
+pub of-none : (freq : ℕ) → AreOf [] freq []
+unfolding fold_of
+of-none freq = record { fold = refl; accepted = record { timed = λ i d h. absurd (omega arith); sound = λ i d h. absurd (omega arith); follow = λ i j d before h. absurd (omega arith) } }
+
+-- a stamp that is accepted, and one that is not
+estimate-by : (freq : ℕ) (all : List Stamp) (s : Stamp) (fulls : List Full) (full : Full) (r : Result (Unit {0}) Refused) → accept_of (last_of all) s freq ≡ r → IsInRange s → AreOf fulls freq all → fed.Estimate full ≡ fed_by r (full_at freq (all ++ s ∷ []) (length all)) → AreOf (fulls ++ full ∷ []) freq (accepted_with all s r)
+estimate-by freq all s fulls full (Ok o) e timed are is =
+    let here : full ≡ full_at freq (all ++ s ∷ []) (length all) = cc in
+    record {
+      fold = ap₂ (λ (fs : List Full) (f : Full). fs ++ f ∷ []) are.fold here ∙ sym (fold_of-push freq all s);
+      accepted = accepted-push freq all s are.accepted timed e;
+    }
+estimate-by freq all s fulls full (Err why) e timed are is = absurd (cc)
+
+pub of-estimate : (freq : ℕ) (all : List Stamp) (s : Stamp) (fulls : List Full) (full : Full) → IsInRange s → AreOf fulls freq all → fed.Estimate full ≡ fed_of freq all s → AreOf (fulls ++ full ∷ []) freq (accepted_with all s (accept_of (last_of all) s freq))
+of-estimate freq all s fulls full timed are is = estimate-by freq all s fulls full (accept_of (last_of all) s freq) refl timed are is
+
+refused-by : (freq : ℕ) (all : List Stamp) (s : Stamp) (fulls : List Full) (why : Refused) (r : Result (Unit {0}) Refused) → AreOf fulls freq all → fed.Refused why ≡ fed_by r (full_at freq (all ++ s ∷ []) (length all)) → AreOf fulls freq (accepted_with all s r)
+refused-by freq all s fulls why (Ok o) are is = absurd (cc)
+refused-by freq all s fulls why (Err other) are is = are
+
+pub of-refused : (freq : ℕ) (all : List Stamp) (s : Stamp) (fulls : List Full) (why : Refused) → AreOf fulls freq all → fed.Refused why ≡ fed_of freq all s → AreOf fulls freq (accepted_with all s (accept_of (last_of all) s freq))
+of-refused freq all s fulls why are is = refused-by freq all s fulls why (accept_of (last_of all) s freq) are is

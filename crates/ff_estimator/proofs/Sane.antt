@@ -28,7 +28,7 @@ use Rattle.ff_estimator.specs.Terms.{term_of}
 use Rattle.ff_estimator.specs.Means.{count_at, terms_at, mean_at}
 use Rattle.ff_estimator.specs.Choices.{predicted_by, count_before, taken_before, taken_at}
 use Rattle.ff_estimator.specs.Estimates.{full_at}
-use Rattle.ff_estimator.specs.Daemons.{IsBounded}
+use Rattle.ff_estimator.specs.Daemons.{IsTakenBounded}
 use Rattle.ff_estimator.specs.declared.choices.Taken.{Taken}
 use Rattle.ff_estimator.proofs.Bounds.{predicted-within, chosen-bounded}
 use Rattle.ff_estimator.proofs.MeanSums.{since_below, spread_below}
@@ -42,7 +42,7 @@ pub count-is : (all : List Stamp) (i : ℕ) (d : Stamp) → i < length all → c
 count-is all i d here = get_or-map (λ s. s.tf) all i d 0 here
 
 -- the counts of accepted stamps are below 2^62, above 0, and rise
-count-below : (freq : ℕ) (all : List Stamp) (i : ℕ) → AreAccepted freq all → i < length all → count_at all i < 4611686018427387904
+count-below : (freq : ℕ) (all : List Stamp) (i : ℕ) → AreAccepted freq all → i < length all → count_at all i < 2 ^ 62
 count-below freq all i are here = omega (arith, count-is all i blank here, (are.timed i blank here).tf)
 
 pub count-late : (freq : ℕ) (all : List Stamp) (i : ℕ) → AreAccepted freq all → i < length all → 0 < count_at all i
@@ -139,7 +139,7 @@ mean-at freq all i low are =
     (sum-below (λ t. t.weight * t.twice_spread) (terms_at freq all i) (All-map Spread term (slice_range all from (i + 1)) (among (λ s. Spread (term s)) (λ k d here. term-spread freq base now rate (get_or all k d) low (are.sound k d here) is))))
 
 -- what is taken before a stamp is within the bounds of a daemon's
-taken-bounded : (freq : ℕ) (all : List Stamp) (i : ℕ) → 1000000 ≤ freq → AreAccepted freq all → i ≤ length all → IsBounded (taken_before freq all i) (count_before all i)
+taken-bounded : (freq : ℕ) (all : List Stamp) (i : ℕ) → 1000000 ≤ freq → AreAccepted freq all → i ≤ length all → IsTakenBounded (taken_before freq all i) (count_before all i)
 unfolding taken_before
 taken-bounded freq all zero low are here = record { low = omega (arith, ints); high = omega (arith, ints); spread = omega arith; run = omega arith }
 taken-bounded freq all (suc i) low are here =
@@ -158,7 +158,7 @@ full-sane freq all i low are here =
     let is : IsRate freq (global_rate freq all i) = rate-over 1024 freq all i are in
     let most = highest-bounded freq low in
     let update = count-below freq all i are here in
-    let taken : IsBounded (taken_at freq all i) (count_at all i) = taken-bounded freq all (suc i) low are (omega arith) in
+    let taken : IsTakenBounded (taken_at freq all i) (count_at all i) = taken-bounded freq all (suc i) low are (omega arith) in
     let time = number_of-of_grains (taken_at freq all i).time in
     let sane : IsSane (full_at freq all i).est = record { update = update; period = omega (arith, is.high, is.highest, most); low = rw time taken.low; high = rw time (omega (arith, ints, taken.high, update)) } in
     sane-from (full_at freq all i).est sane refl refl

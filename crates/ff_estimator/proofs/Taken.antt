@@ -1,5 +1,5 @@
 -- Estimates that a clock can take one after another.
-use Rattle.std.proofs.Common.{◌≡◌, ◌<◌, ◌≤◌, Bool, true, false, T, ◌&&◌, nat_lt, pos, negsuc, int_le, int_lt, List, [], ◌∷◌, length, map, get_or, refl, sym, ap, subst, arith}
+use Rattle.std.proofs.Common.{◌≡◌, ◌<◌, Bool, true, false, T, ◌&&◌, nat_lt, pos, negsuc, int_le, int_lt, List, [], ◌∷◌, length, map, get_or, refl, sym, subst, arith}
 use Rattle.std.specs.List.{All, AllPairs}
 use Rattle.std.proofs.lemmas.Bool.Decides.{nat_tests}
 use Rattle.std.proofs.lemmas.List.{length-map, get_or-map}

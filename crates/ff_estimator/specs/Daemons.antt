@@ -1,5 +1,5 @@
 -- What a daemon keeps, and which accepted stamps that stands for.
-use Rattle.std.specs.Prelude.{◌≡◌, ℕ, ℤ, ◌+◌, ◌-◌, ◌*◌, ◌≤◌, pos, ◌≤ℤ◌, max, if◌then◌else◌, List, length, map, drop, Option, None, Some}
+use Rattle.std.specs.Prelude.{◌≡◌, ℕ, ℤ, ◌+◌, ◌-◌, ◌*◌, ◌^◌, ◌≤◌, pos, ◌≤ℤ◌, max, if◌then◌else◌, List, length, map, drop, Option, None, Some}
 use Rattle.stamp_text.specs.Accepted.{last_of}
 use Rattle.stamp_text.specs.declared.lines.Stamp.{Stamp}
 use Rattle.rtt_window.specs.Windows as windows
@@ -48,10 +48,10 @@ count_of None = 0
 count_of (Some s) = s.tf
 
 -- a time that is not negative, and with its spread grows by at most 2^45 grains a count
-pub record IsBounded (t : Taken) (count : ℕ) : Type 0 where
+pub record IsTakenBounded (t : Taken) (count : ℕ) : Type 0 where
   pub low : pos 0 ≤ℤ t.time
-  pub high : t.time ≤ℤ pos (158456325028528675187087900672 + 35184372088832 * count)
-  pub spread : t.spread ≤ 158456325028528675187087900673 + 35184372088832 * count
+  pub high : t.time ≤ℤ pos (2 ^ 97 + 2 ^ 45 * count)
+  pub spread : t.spread ≤ 2 ^ 97 + 1 + 2 ^ 45 * count
   pub run : t.run ≤ 32
 
 -- what every daemon has
@@ -59,4 +59,4 @@ pub record Holds (k : Kept) (freq : ℕ) : Type 0 where
   pub at : k.window.freq ≡ freq
   pub low : 1000000 ≤ freq
   pub high : freq ≤ 16000000000
-  pub bounded : IsBounded k.taken (count_of (last_of k.window.stamps))
+  pub bounded : IsTakenBounded k.taken (count_of (last_of k.window.stamps))

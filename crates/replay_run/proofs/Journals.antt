@@ -74,8 +74,8 @@ pub journal-by : (steps : List PlanStep) (ticks : List Hands) → IsJournal tick
 journal-by steps ticks is counts orders =
     let many : length ticks ≡ 1 + length steps = omega (arith, length-map ticks (λ (h : Hands). h.count), ap length counts, length-map steps (λ (s : PlanStep). s.to)) in
     let each : AreTicksOf false steps ticks = λ k s h at there. (
-      let count = at-places (λ (h : Hands). h.count) (λ (s : PlanStep). s.to) ticks steps 0 k h s counts at there in
-      record { order = at-places order_of (λ (s : PlanStep). s.order) ticks steps order.Plain k h s orders at there; reached = omega arith; exact = λ e. count }
+    let count = at-places (λ (h : Hands). h.count) (λ (s : PlanStep). s.to) ticks steps 0 k h s counts at there in
+    record { order = at-places order_of (λ (s : PlanStep). s.order) ticks steps order.Plain k h s orders at there; reached = omega arith; exact = λ e. count }
     ) in
     record { journal = is; many = many; each = each; most = exact-most steps ticks is.first many each }
   where

@@ -7,7 +7,7 @@ mod plan;
 mod tests;
 
 pub use laws::{
-    journals_are_legal, journals_are_the_only_ones, journals_take_each_estimate,
-    plans_fit, plans_take_each_estimate, steps_are_counted, steps_wind, targets_never_fall,
+    journals_are_legal, journals_are_the_only_ones, journals_take_each_estimate, plans_fit,
+    plans_take_each_estimate, steps_are_counted, steps_wind, targets_never_fall,
 };
 pub use plan::{Options, Plan, PlanStep};
