@@ -1,2 +1,4 @@
 pub mod Written
 pub mod Chains
+pub mod Joining
+pub mod InBlocks

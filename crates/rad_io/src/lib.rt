@@ -2,6 +2,7 @@
 //! count of its faults.
 #![tactic(auto)]
 
+mod blocks;
 mod memory;
 mod sink;
 mod source;
@@ -9,6 +10,7 @@ mod streams;
 #[cfg(test)]
 mod tests;
 
+pub use blocks::{BLOCK, BlockSink};
 pub use memory::{MemSink, MemSource};
 pub use sink::Sink;
 pub use source::Source;

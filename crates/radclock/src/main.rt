@@ -10,8 +10,6 @@ mod gather;
 mod inputs;
 mod journal;
 mod make;
-#[cfg(test)]
-mod plain;
 mod plays;
 mod reading;
 mod reports;

@@ -1,12 +1,8 @@
-// The daemon beside a plain program over a long run of made stamps. The program keeps all accepted
-// stamps and computes each estimate afresh from their list, by the rules in words of docs/DAEMON.md.
-mod made;
-mod rules;
-
+// The daemon beside the plain program.
 ghost use Rattle.std.specs.Prelude.{◌≡◌, ◌<◌};
 
-use crate::plain::made::{Maker, stamp_of};
-use crate::plain::rules::{FREQ, Plain};
+use crate::made::{Maker, stamp_of};
+use crate::rules::{FREQ, Plain};
 use ff_estimator::{Daemon, Fed};
 use ff_grain::NoMemory;
 use std::alloc::Global;

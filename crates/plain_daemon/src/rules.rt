@@ -158,8 +158,10 @@ impl Plain {
 
     // The least round trip from this index on.
     fn least(&self, from: usize) -> Whole {
-        let trips = self.all.iter().skip(from).map(|row| row.trip());
-        trips.min().unwrap_or(ZERO)
+        match self.best(from, usize::MAX) {
+            Some(row) => row.trip(),
+            None => ZERO,
+        }
     }
 
     // The base, and whether the level shifts. Where it does, it starts anew.
@@ -177,8 +179,14 @@ impl Plain {
 
     // The first of least round trip of so many stamps from this index on.
     fn best(&self, from: usize, count: usize) -> Option<Row> {
-        let rows = self.all.iter().skip(from).take(count);
-        rows.min_by_key(|row| row.trip()).copied()
+        let mut best: Option<Row> = None;
+        for row in self.all.iter().skip(from).take(count) {
+            match best {
+                Some(least) if least.trip() <= row.trip() => {}
+                _ => best = Some(*row),
+            }
+        }
+        best
     }
 
     // The rate over so many of the last stamps.

@@ -1,8 +1,9 @@
 // A long run of stamps, made by a small generator.
 ghost use Rattle.std.specs.Prelude.{◌<◌, ◌^◌};
-ghost use Rattle.stamp_text.specs.Accepted.{IsTime, IsInRange};
+ghost use Rattle.ff_grain.specs.Grains.{IsTime};
+ghost use Rattle.stamp_text.specs.Accepted.{IsInRange};
 
-use crate::plain::rules::{FREQ, MILLISECOND, Row, Whole, highest};
+use crate::rules::{FREQ, MILLISECOND, Row, Whole, highest};
 use ff_grain::Bintime;
 use stamp_text::Stamp;
 use std::num::Saturating;
