@@ -1,11 +1,13 @@
 -- The lines of the program: the name of a command, and what its row has behind it.
-use Rattle.std.specs.Prelude.{ℕ, ◌<◌, ◌≤◌, nat_le, if◌then◌else◌, List, [], ◌∷◌, Option, None, Some, codes, option_map, option_and_then}
+use Rattle.std.specs.Prelude.{◌≡◌, ℕ, ◌<◌, ◌≤◌, ◌^◌, ◌-◌, Bool, false, nat_le, if◌then◌else◌, List, [], ◌∷◌, Option, None, Some, codes, option_map, option_and_then}
 use Rattle.std.specs.Option.{option_zip}
 use Rattle.std.specs.Str.{bytes_eq}
 use Rattle.stamp_text.specs.Digits.{number_in}
-use Rattle.clock_words.specs.Rows.{Text, Row, Item, value_of, items_in}
+use Rattle.clock_words.specs.Rows.{Text, Row, Item, has, value_of, items_in}
+use Rattle.clock_words.specs.Parts.{AreWritten}
 use Rattle.clock_words.specs.declared.commands.Command.{Command}
 use Rattle.clock_words.specs.declared.commands.Command.TheVariants as command
+use Rattle.clock_words.specs.declared.commands.Report.{Report}
 use Rattle.clock_words.specs.declared.commands.Report.TheVariants as report
 
 -- the names of a row
@@ -51,13 +53,30 @@ option_within least most default (Some text) = number_within least most text
 abbrev pub place_within : ℕ → ℕ → Option Text → Option ℕ
 place_within least most text = option_and_then (number_within least most) text
 
--- `ticks`: from 0 to 15 plain steps between two estimates, and 4 where the words do not tell
+-- the most plain steps between two estimates
+abbrev pub most_ticks : ℕ
+most_ticks = 15
+
+-- the most stamps that are made
+abbrev pub most_made : ℕ
+most_made = 16384
+
+-- `ticks`: so many plain steps between two estimates, and 4 where the words do not tell
 abbrev pub ticks_of : List Item → Option Command
-ticks_of items = option_map (λ n. command.Report (report.Ticks n)) (option_within 0 15 4 (value_of ticks_name items))
+ticks_of items = option_map (λ n. command.Report (report.Ticks n)) (option_within 0 most_ticks 4 (value_of ticks_name items))
 
 -- `make`: a number below 2^32, and a count from 1 to 16,384
 abbrev pub make_of : List Item → Option Command
-make_of items = option_map (λ p. command.Make p.0 p.1) (option_zip (place_within 0 4294967295 (value_of number_name items)) (place_within 1 16384 (value_of count_name items)))
+make_of items = option_map (λ p. command.Make p.0 p.1) (option_zip (place_within 0 (2 ^ 32 - 1) (value_of number_name items)) (place_within 1 most_made (value_of count_name items)))
+
+-- the names of the commands
+abbrev pub command_names : List Text
+command_names = codes "stamps" ∷ codes "rtt" ∷ codes "estimate" ∷ codes "ticks" ∷ codes "make" ∷ []
+
+-- words begin with the name of a command
+abbrev pub begins_with_name : List Text → Bool
+begins_with_name [] = false
+begins_with_name (name ∷ words) = has command_names name
 
 -- the command that has a name, with what the words behind it say
 abbrev pub command_named : Text → List Text → Option Command
@@ -74,7 +93,22 @@ unfoldable pub command_in : List Text → Option Command
 command_in [] = None
 command_in (name ∷ words) = command_named name words
 
--- what words give to `make` is in range
-abbrev pub IsRanged : Command → Type 0
-IsRanged (command.Report r) = Unit {0}
-IsRanged (command.Make number count) = (number < 4294967296) × (1 ≤ count) × (count ≤ 16384)
+-- the words are a line of the program, which is this command
+pub data IsLine : List Text → Command → Type 0 where
+  stamps : IsLine (codes "stamps" ∷ []) (command.Report report.Stamps)
+  rtt : IsLine (codes "rtt" ∷ []) (command.Report report.Rtt)
+  estimate : IsLine (codes "estimate" ∷ []) (command.Report report.Estimate)
+  ticks : (words : List Text) (items : List Item) (n : ℕ) → AreWritten ticks_row words items → option_within 0 most_ticks 4 (value_of ticks_name items) ≡ Some n → IsLine (codes "ticks" ∷ words) (command.Report (report.Ticks n))
+  make : (first second : Text) (number count : ℕ) → number_within 0 (2 ^ 32 - 1) first ≡ Some number → number_within 1 most_made second ≡ Some count → IsLine (codes "make" ∷ first ∷ second ∷ []) (command.Make number count)
+
+-- the numbers of a report are in their ranges
+abbrev pub IsReportInRange : Report → Type 0
+IsReportInRange report.Stamps = Unit {0}
+IsReportInRange report.Rtt = Unit {0}
+IsReportInRange report.Estimate = Unit {0}
+IsReportInRange (report.Ticks n) = n ≤ most_ticks
+
+-- the numbers of a command are in their ranges
+abbrev pub IsCommandInRange : Command → Type 0
+IsCommandInRange (command.Report r) = IsReportInRange r
+IsCommandInRange (command.Make number count) = (number < 2 ^ 32) × (1 ≤ count) × (count ≤ most_made)

@@ -1,10 +1,14 @@
 // The lines of the program.
-ghost use Rattle.std.specs.Prelude.{◌≡◌, ◌≤◌, ◌<◌, ◌^◌, ◌-◌, IfOk, IfSome, map, option_map, option_and_then};
-ghost use Rattle.clock_words.specs.Rows.{items_in};
+ghost use Rattle.std.specs.Prelude.{◌≡◌, ◌↔◌, ◌≤◌, ◌<◌, ◌^◌, ◌-◌, IfOk, IfErr, OnErr, IfSome, Some, true, map, option_map, option_and_then};
+ghost use Rattle.clap.specs.Values.{kind_of};
+ghost use Rattle.clock_words.specs.Rows.{has, items_in};
+ghost use Rattle.clock_words.specs.declared.commands.Command.{Command};
 ghost use Rattle.clock_words.specs.declared.commands.Command.TheVariants as command;
-ghost use Rattle.clock_words.specs.Lines.{IsRanged, bare_row, ticks_row, make_row, number_within, ticks_of, make_of, command_named, command_in};
+ghost use Rattle.clock_words.specs.Lines.{IsLine, IsReportInRange, IsCommandInRange, bare_row, ticks_row, make_row, number_within, ticks_of, make_of, command_names, begins_with_name, command_named, command_in};
 
 use crate::{Command, Report, rows};
+use clap::Error;
+use clap::error::ErrorKind;
 use ff_grain::NoMemory;
 use stamp_text::number_of;
 use std::alloc::Global;
@@ -34,13 +38,11 @@ fn number_within(least: u64, most: u64, text: &str) -> Option<u64>
 }
 
 // A report whose command has nothing behind its name.
-fn bare<'a>(
-    alloc: Global,
-    report: Report,
-    words: &'a [&'a str],
-) -> Result<Option<Command>, NoMemory>
+fn bare<'a>(alloc: Global, report: Report, words: &'a [&'a str]) -> Result<Option<Command>, Error>
+    requires { IsReportInRange report }
     ensures value { IfOk result (λ found. found ≡ option_map (λ items. command.Report report) (items_in bare_row (map (λ w. w.now) words.entry.now))) }
-    ensures ranged { IfOk result (λ found. IfSome found IsRanged) }
+    ensures ranged { IfOk result (λ found. IfSome found IsCommandInRange) }
+    ensures memory { IfErr result (λ e. kind_of e ≡ ErrorKind.OutOfMemory) }
 {
     match rows::bare(alloc, words)? {
         Some(_) => Ok(Some(Command::Report(report))),
@@ -48,14 +50,15 @@ fn bare<'a>(
     }
 }
 
-fn ticks<'a>(alloc: Global, words: &'a [&'a str]) -> Result<Option<Command>, NoMemory>
+fn ticks<'a>(alloc: Global, words: &'a [&'a str]) -> Result<Option<Command>, Error>
     ensures value { IfOk result (λ found. found ≡ option_and_then ticks_of (items_in ticks_row (map (λ w. w.now) words.entry.now))) }
-    ensures ranged { IfOk result (λ found. IfSome found IsRanged) }
+    ensures ranged { IfOk result (λ found. IfSome found IsCommandInRange) }
+    ensures memory { IfErr result (λ e. kind_of e ≡ ErrorKind.OutOfMemory) }
 {
-    let Some(said) = rows::ticks(alloc, words)? else {
+    let Some(arguments) = rows::ticks(alloc, words)? else {
         return Ok(None);
     };
-    let ticks = match said.value("ticks") {
+    let ticks = match arguments.value("ticks") {
         Some(text) => number_within(0, MOST_TICKS, text),
         None => Some(TICKS),
     };
@@ -67,14 +70,15 @@ fn ticks<'a>(alloc: Global, words: &'a [&'a str]) -> Result<Option<Command>, NoM
     }
 }
 
-fn make<'a>(alloc: Global, words: &'a [&'a str]) -> Result<Option<Command>, NoMemory>
+fn make<'a>(alloc: Global, words: &'a [&'a str]) -> Result<Option<Command>, Error>
     ensures value { IfOk result (λ found. found ≡ option_and_then make_of (items_in make_row (map (λ w. w.now) words.entry.now))) }
-    ensures ranged { IfOk result (λ found. IfSome found IsRanged) }
+    ensures ranged { IfOk result (λ found. IfSome found IsCommandInRange) }
+    ensures memory { IfErr result (λ e. kind_of e ≡ ErrorKind.OutOfMemory) }
 {
-    let Some(said) = rows::make(alloc, words)? else {
+    let Some(arguments) = rows::make(alloc, words)? else {
         return Ok(None);
     };
-    let (Some(number), Some(count)) = (said.value("NUMBER"), said.value("COUNT")) else {
+    let (Some(number), Some(count)) = (arguments.value("NUMBER"), arguments.value("COUNT")) else {
         return Ok(None);
     };
     match (
@@ -94,9 +98,11 @@ fn command_named<'a>(
     alloc: Global,
     name: &str,
     words: &'a [&'a str],
-) -> Result<Option<Command>, NoMemory>
+) -> Result<Option<Command>, Error>
     ensures value { IfOk result (λ found. found ≡ command_named name.now (map (λ w. w.now) words.entry.now)) }
-    ensures ranged { IfOk result (λ found. IfSome found IsRanged) }
+    ensures ranged { IfOk result (λ found. IfSome found IsCommandInRange) }
+    ensures named { OnErr result (has command_names name.now ≡ true) }
+    ensures memory { IfErr result (λ e. kind_of e ≡ ErrorKind.OutOfMemory) }
 {
     match name {
         "stamps" => bare(alloc, Report::Stamps, words),
@@ -108,15 +114,27 @@ fn command_named<'a>(
     }
 }
 
-/// The command that the words after the program's name are, if they are a line; the only other
-/// cause of no answer is want of memory.
+// The command that words are, if they are a line.
 #[tactic(auto, unfolding(crate::specs::Lines::command_in))]
-pub fn command_of<'a>(alloc: Global, words: &'a [&'a str]) -> Result<Option<Command>, NoMemory>
+fn parse<'a>(alloc: Global, words: &'a [&'a str]) -> Result<Option<Command>, Error>
     ensures value { IfOk result (λ found. found ≡ command_in (map (λ w. w.now) words.entry.now)) }
-    ensures ranged { IfOk result (λ found. IfSome found IsRanged) }
+    ensures ranged { IfOk result (λ found. IfSome found IsCommandInRange) }
+    ensures named { OnErr result (begins_with_name (map (λ w. w.now) words.entry.now) ≡ true) }
+    ensures memory { IfErr result (λ e. kind_of e ≡ ErrorKind.OutOfMemory) }
 {
     match words.split_first() {
         Some((name, rest)) => command_named(alloc, name, rest),
         None => Ok(None),
     }
+}
+
+/// The command that the words after the program's name are, if they are a line. The error is want
+/// of memory, which comes only behind the name of a command.
+pub fn command_of<'a>(alloc: Global, words: &'a [&'a str]) -> Result<Option<Command>, NoMemory>
+    ensures line { IfOk result (λ found. (c : Command) → (found ≡ Some c) ↔ IsLine (map (λ w. w.now) words.entry.now) c) }
+    ensures value { IfOk result (λ found. found ≡ command_in (map (λ w. w.now) words.entry.now)) }
+    ensures ranged { IfOk result (λ found. IfSome found IsCommandInRange) }
+    ensures memory { OnErr result (begins_with_name (map (λ w. w.now) words.entry.now) ≡ true) }
+{
+    parse(alloc, words).map_err(|_| NoMemory)
 }

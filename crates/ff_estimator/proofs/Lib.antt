@@ -4,4 +4,7 @@ pub mod MeanSums
 pub mod FirstMeans
 pub mod Bounds
 pub mod Newest
+pub mod Taken
+pub mod Sane
+pub mod Folds
 pub mod WholeRuns

@@ -1,5 +1,5 @@
 -- What is said of the newest stamp, from what is kept.
-use Rattle.std.proofs.Common.{◌≡◌, ℕ, ◌+◌, ◌-◌, ◌≤◌, max, cond, List, [], ◌∷◌, ◌++◌, length, map, drop, slice_index, slice_range, slice_get, refl, sym, ap, ap₂, ◌∙◌, subst, arith}
+use Rattle.std.proofs.Common.{◌≡◌, ℕ, ◌+◌, ◌-◌, ◌≤◌, max, cond, suc, List, [], ◌∷◌, ◌++◌, length, map, drop, slice_index, slice_range, slice_get, refl, sym, ap, ap₂, ◌∙◌, subst, arith}
 use Rattle.std.proofs.lemmas.List.{take_all, length_push, map_push, length-map, get_or_push, get_or-map}
 use Rattle.std.proofs.lemmas.Option.{slice_get-get_or}
 use Rattle.stamp_text.specs.Accepted.{last_of}
@@ -8,7 +8,7 @@ use Rattle.rtt_window.specs.Bases.{base_at}
 use Rattle.rtt_window.specs.Pairs.{pair_of}
 use Rattle.rtt_window.specs.Windows as windows
 use Rattle.rtt_window.specs.declared.bases.Base.{Base}
-use Rattle.rtt_window.proofs.Keeping.{range-kept}
+use Rattle.rtt_window.proofs.Keeping.{range-kept, last-kept}
 use Rattle.rtt_window.proofs.Pairing.{pair_of-kept}
 use Rattle.rtt_window.proofs.Prefixes.{base_at-start}
 use Rattle.rate_pair.specs.declared.rates.Rate.{Rate}
@@ -20,6 +20,7 @@ use Rattle.ff_estimator.specs.Choices.{chosen, predicted_by, count_before, taken
 use Rattle.ff_estimator.specs.Estimates.{full_of, full_at}
 use Rattle.ff_estimator.specs.Daemons.{AreRates, mean_kept, taken_kept, count_of}
 use Rattle.ff_estimator.specs.declared.choices.Taken.{Taken}
+use Rattle.ff_estimator.specs.declared.fulls.Full.{Full}
 use Rattle.ff_estimator.specs.declared.rates.Rates.{Rates}
 use Rattle.ff_estimator.proofs.Prefixes.{count_before-append, taken_before-append}
 
@@ -105,3 +106,20 @@ full-push w freq all s base rates t stands is_base are taken =
     ap₂ (λ i c. full_of i c rates.global base.shifted rates.local t) index (sym (count_at-push all s))
     ∙ ap₂ (λ (r : Rate) (b : Base). full_of n (count_at (all ++ s ∷ []) n) r b.shifted rates.local t) are'.global is_base
     ∙ ap₂ (λ local (t : Taken). full_of n (count_at (all ++ s ∷ []) n) (global_rate freq (all ++ s ∷ []) n) (base_at freq (all ++ s ∷ []) n).shifted local t) are'.local taken
+
+-- what a daemon then keeps, and says
+pub taken-stands : (w : windows.Kept) (freq : ℕ) (all : List Stamp) (s : Stamp) (base : Base) (rates : Rates) (before : ℕ) (t taken : Taken) → windows.StandsFor w freq (all ++ s ∷ []) → base ≡ base_at freq (all ++ s ∷ []) (length all) → AreRates w rates → before ≡ count_of (last_of all) → t ≡ taken_before freq all (length all)
+    → taken ≡ taken_kept w base rates before s.tf t → taken ≡ taken_before freq (all ++ s ∷ []) (length (all ++ s ∷ []))
+taken-stands w freq all s base rates before t taken stands is_base are is_before was is =
+    let many : suc (length all) ≡ length (all ++ s ∷ []) = omega (arith, length_push all s) in
+    is ∙ taken-push w freq all s base rates before t stands is_base are is_before was ∙ ap (taken_before freq (all ++ s ∷ [])) many
+
+pub full-stands : (w : windows.Kept) (freq : ℕ) (all : List Stamp) (s : Stamp) (base : Base) (rates : Rates) (taken : Taken) (count : ℕ) (full : Full) → windows.StandsFor w freq (all ++ s ∷ []) → base ≡ base_at freq (all ++ s ∷ []) (length all) → AreRates w rates → taken ≡ taken_before freq (all ++ s ∷ []) (length (all ++ s ∷ []))
+    → count ≡ w.count → full ≡ full_of (count - 1) s.tf rates.global base.shifted rates.local taken → full ≡ full_at freq (all ++ s ∷ []) (length all)
+full-stands w freq all s base rates taken count full stands is_base are is_taken is_count is =
+    let many : length (all ++ s ∷ []) ≡ suc (length all) = omega (arith, length_push all s) in
+    is ∙ ap (λ n. full_of (n - 1) s.tf rates.global base.shifted rates.local taken) is_count ∙ full-push w freq all s base rates taken stands is_base are (is_taken ∙ ap (taken_before freq (all ++ s ∷ [])) many)
+
+-- the count of the newest stamp by what is kept
+pub newest-count : (w : windows.Kept) (freq : ℕ) (all : List Stamp) → windows.StandsFor w freq all → count_of (last_of w.stamps) ≡ count_of (last_of all)
+newest-count w freq all stands = ap (λ (xs : List Stamp). count_of (last_of xs)) stands.stamps ∙ ap count_of (last-kept all)

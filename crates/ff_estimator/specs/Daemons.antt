@@ -48,7 +48,7 @@ count_of None = 0
 count_of (Some s) = s.tf
 
 -- a time that is not negative, and with its spread grows by at most 2^45 grains a count
-pub record IsBounded (t : Taken) (count : ℕ) : Type 0 where
+pub record IsTakenBounded (t : Taken) (count : ℕ) : Type 0 where
   pub low : pos 0 ≤ℤ t.time
   pub high : t.time ≤ℤ pos (158456325028528675187087900672 + 35184372088832 * count)
   pub spread : t.spread ≤ 158456325028528675187087900673 + 35184372088832 * count
@@ -59,4 +59,4 @@ pub record Holds (k : Kept) (freq : ℕ) : Type 0 where
   pub at : k.window.freq ≡ freq
   pub low : 1000000 ≤ freq
   pub high : freq ≤ 16000000000
-  pub bounded : IsBounded k.taken (count_of (last_of k.window.stamps))
+  pub bounded : IsTakenBounded k.taken (count_of (last_of k.window.stamps))

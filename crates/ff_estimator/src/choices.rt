@@ -3,7 +3,7 @@ ghost use Rattle.std.specs.Prelude.{◌≡◌, ◌+◌, ◌*◌, ◌<◌, ◌≤
 ghost use Rattle.stamp_text.specs.declared.lines.Stamp.{Stamp};
 ghost use Rattle.ff_estimator.specs.Means.{mean_at};
 ghost use Rattle.ff_estimator.specs.Choices.{is_doubted, chosen, predicted_by, taken_at};
-ghost use Rattle.ff_estimator.specs.Daemons.{IsBounded};
+ghost use Rattle.ff_estimator.specs.Daemons.{IsTakenBounded};
 
 use rate_pair::Rate;
 

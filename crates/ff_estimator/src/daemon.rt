@@ -6,8 +6,8 @@ ghost use Rattle.stamp_text.specs.declared.accepts.Refused.{Refused};
 ghost use Rattle.stamp_text.specs.declared.lines.Stamp.{Stamp};
 ghost use Rattle.rate_pair.specs.Rates.{IsRate};
 ghost use Rattle.ff_estimator.specs.Estimates.{full_at, fed_of};
-ghost use Rattle.ff_estimator.specs.Daemons.{StandsFor, IsBounded, count_of, mean_kept, taken_kept, credit};
-ghost use Rattle.ff_estimator.specs.Runs.{Does};
+ghost use Rattle.ff_estimator.specs.Daemons.{StandsFor, IsTakenBounded, count_of, mean_kept, taken_kept, credit};
+ghost use Rattle.ff_estimator.specs.Runs.{IsPaid};
 
 use crate::choices::{Taken, chosen, predicted_by};
 use crate::fulls::{Fed, Full, full_of};
@@ -111,9 +111,9 @@ fn taken_at(
     requires bound { rates.now.global.high < 2 ^ 45 }
     requires later { before ≤ now }
     requires now { now < 2 ^ 62 }
-    requires bounded { IsBounded t.now before }
+    requires bounded { IsTakenBounded t.now before }
     ensures value { result ≡ taken_kept window.now base.now rates.now before now t.now }
-    ensures bounded { IsBounded result now }
+    ensures bounded { IsTakenBounded result now }
 {
     let mean = mean_at(window, freq, base, &rates.in_use, now);
     let predicted = predicted_by(&rates.global, now - before, t);
@@ -159,7 +159,7 @@ impl Daemon {
         requires accepted { accept_of (last_of self.old.window.stamps) s self.old.window.freq ≡ Ok tt }
         ensures stands { (freq : ℕ) (all : List Stamp) → StandsFor self.old freq all → StandsFor self.new freq (all ++ s ∷ []) }
         ensures value { (freq : ℕ) (all : List Stamp) → StandsFor self.old freq all → result ≡ full_at freq (all ++ s ∷ []) (length all) }
-        ensures does { Does self.old (record { before = steps.old; after = steps.new }) self.new }
+        ensures paid { IsPaid self.old (record { before = steps.old; after = steps.new }) self.new }
     {
         let before = newest_count(&self.window);
         let base = self.window.add(s, steps);
@@ -191,7 +191,7 @@ impl Daemon {
         ensures stands { (freq : ℕ) (all : List Stamp) → StandsFor self.old freq all → StandsFor self.new freq (accepted_with all s (accept_of (last_of all) s freq)) }
         ensures refused { (why : Refused) → result ≡ Fed.Refused why → self.new ≡ self.old }
         ensures uncounted { (why : Refused) → result ≡ Fed.Refused why → steps.new ≡ steps.old }
-        ensures does { Does self.old (record { before = steps.old; after = steps.new }) self.new }
+        ensures paid { IsPaid self.old (record { before = steps.old; after = steps.new }) self.new }
     {
         match self.test(&s) {
             Ok(()) => Fed::Estimate(self.estimate(s, steps)),

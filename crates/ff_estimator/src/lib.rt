@@ -13,4 +13,7 @@ mod tests;
 pub use choices::first_has_mean;
 pub use daemon::Daemon;
 pub use fulls::{Fed, Full, estimates_stay};
-pub use laws::a_stamp_takes_twelve_steps;
+pub use laws::{
+    a_stamp_takes_twelve_steps, each_stamp_has_an_estimate, estimates_are_of_one_daemon,
+    estimates_can_be_taken, folds_grow, rates_are_believed,
+};

@@ -177,7 +177,11 @@ fn refused_stamps_leave_no_trace(rt: HostRuntime) -> Result<(), Fail> {
             Fed::Refused(why)
         );
     }
-    assert_eq!(rt; feed_behind(&mut daemon, &[], stamp_of(SECOND)), second());
+    // The first of these two is refused again.
+    assert_eq!(rt;
+        feed_behind(&mut daemon, &[stamp_of(FIRST)], stamp_of(SECOND)),
+        second()
+    );
     Ok(())
 }
 
@@ -200,17 +204,5 @@ fn stamps_at_the_limits_are_accepted(rt: HostRuntime) -> Result<(), Fail> {
         );
         assert_eq!(rt; accepted, true);
     }
-    Ok(())
-}
-
-#[test]
-fn stamps_behind_others(rt: HostRuntime) -> Result<(), Fail> {
-    let mut daemon = Daemon::new(rt.alloc(), FREQ)?;
-    // The second of them is refused.
-    let before = [stamp_of(FIRST), stamp_of(FIRST)];
-    assert_eq!(rt;
-        feed_behind(&mut daemon, &before, stamp_of(SECOND)),
-        second()
-    );
     Ok(())
 }

@@ -1,7 +1,7 @@
 // The top call.
 ghost use Rattle.std.specs.Prelude.{◌≡◌, ◌⊎◌, ◌≤◌, ◌<◌, ◌^◌, ℕ, List, [], ◌∷◌, map, Some, None};
 ghost use Rattle.report_text.specs.Text.{fault_text};
-ghost use Rattle.clock_words.specs.Lines.{command_in};
+ghost use Rattle.clock_words.specs.Lines.{IsReportInRange, command_in};
 ghost use Rattle.clock_words.specs.declared.commands.Command.TheVariants as command;
 ghost use Rattle.clock_words.specs.declared.commands.Report.{Report};
 ghost use Rattle.radclock.specs.Inputs.{IsRanged, stop_of_file, takes_few};
@@ -82,6 +82,7 @@ fn finish<K: Sink, L: Ledger>(
     requires name { blank.name ≡ L.name }
     requires parts { blank.parts ≡ L.parts }
     requires some { 0 < blank.parts }
+    requires asked { IsReportInRange asked }
     requires ranged { IsRanged file.now.freq file.now.stamps.items }
     ensures { Finishes K.written K.faults K.push_gives sink.old (report_of asked file.now.freq file.now.stamps.items) result sink.new }
 {

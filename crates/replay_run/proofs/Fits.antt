@@ -9,8 +9,12 @@ use Rattle.ff_hands.specs.Orders.{is_sane_estimate}
 use Rattle.ff_hands.specs.Windups.{start_time, reset_estimate}
 use Rattle.ff_hands.proofs.Orders.{sane-is}
 use Rattle.ff_hands.specs.declared.estimates.Estimate.{Estimate}
+use Rattle.ff_estimator.specs.Folds.{estimates_of, AreOf, AreTaken}
+use Rattle.ff_estimator.specs.declared.fulls.Full.{Full}
+use Rattle.ff_estimator.proofs.Folds.{of-taken}
+use Rattle.stamp_text.specs.declared.lines.Stamp.{Stamp}
 use Rattle.replay_run.specs.Plans.{take_step, count_between, plain_step, steps_from, plan_of}
-use Rattle.replay_run.specs.Fitting.{AreTaken, StepFits, PlanFits}
+use Rattle.replay_run.specs.Fitting.{StepFits, PlanFits}
 use Rattle.replay_run.specs.declared.plan.PlanStep.{PlanStep}
 
 -- the parts end in order, and the last one at the end
@@ -74,3 +78,7 @@ pub plan-fits : (freq : ℕ) (es : List Estimate) (ticks : ℕ) → 1000000 ≤ 
 unfolding plan_of
 plan-fits freq [] ticks low are = (record { later = omega arith; most = omega arith; sane = reset-sane freq low; in_time = omega arith }, tt)
 plan-fits freq (e ∷ es) ticks low are = (record { later = omega arith; most = omega arith; sane = reset-sane freq low; in_time = omega arith }, from-fits e es ticks 0 0 are (omega arith) (are.late 0 e (omega arith)))
+
+-- so does that for the estimates of a daemon
+pub of-plan-fits : (freq : ℕ) (fulls : List Full) (all : List Stamp) (ticks : ℕ) → 1000000 ≤ freq → AreOf fulls freq all → PlanFits 0 0 (plan_of freq (estimates_of fulls) ticks)
+of-plan-fits freq fulls all ticks low are = plan-fits freq (estimates_of fulls) ticks low (of-taken fulls freq all low are)

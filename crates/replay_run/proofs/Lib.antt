@@ -1,6 +1,5 @@
 pub mod Steps
-pub mod Taken
 pub mod Fits
 pub mod Playing
-pub mod Sane
-pub mod Folds
+pub mod Journals
+pub mod Targets

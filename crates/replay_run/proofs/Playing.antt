@@ -8,7 +8,7 @@ use Rattle.ff_hands.specs.declared.hands.Order.{Order}
 use Rattle.ff_hands.specs.declared.hands.Order.TheVariants as order
 use Rattle.replay_run.specs.Fitting.{update_after, IsInTime, StepFits}
 use Rattle.replay_run.specs.declared.plan.PlanStep.{PlanStep}
-use Rattle.replay_run.proofs.Taken.{and_both}
+use Rattle.ff_estimator.proofs.Taken.{and_both}
 
 -- the order is in time at its step's count, and so at a later one
 in-time : (h : Hands) (count to : ℕ) (o : Order) → IsInTime h.est.update_ffcount to o → to ≤ count → is_in_time h count o ≡ true

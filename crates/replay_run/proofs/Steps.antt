@@ -6,7 +6,8 @@ use Rattle.std.specs.List.{range_with_len}
 use Rattle.std.proofs.lemmas.List.FromFn.{length-map-range_with_len, map-range_with_len_more}
 use Rattle.ff_hands.specs.declared.estimates.Estimate.{Estimate}
 use Rattle.ff_estimator.specs.declared.fulls.Full.{Full}
-use Rattle.replay_run.specs.Plans.{estimates_of, take_step, plain_step, steps_between, start_step, steps_from, plan_of}
+use Rattle.ff_estimator.specs.Folds.{estimates_of}
+use Rattle.replay_run.specs.Plans.{take_step, plain_step, steps_between, start_step, steps_from, plan_of}
 use Rattle.replay_run.specs.declared.plan.PlanStep.{PlanStep}
 
 -- one more step between two counts
@@ -56,6 +57,14 @@ taken-last so_far steps plan fulls i ticks d whole take within last =
     let rest = steps_from-last fulls i ticks d (omega arith) in
     let many = length-map fulls (λ (f : Full). f.est) in
     let none : drop (i + 1) (estimates_of fulls) ≡ [] = drop_of_length-le (estimates_of fulls) (omega arith) in
+    let end = append-nil steps in
+    cc
+
+-- behind the last estimate the plan is whole
+pub taken-all : (steps plan : List PlanStep) (fulls : List Full) (i ticks : ℕ) → steps ++ steps_from (drop i (estimates_of fulls)) ticks ≡ plan → length fulls ≤ i → steps ≡ plan
+taken-all steps plan fulls i ticks whole ended =
+    let many = length-map fulls (λ (f : Full). f.est) in
+    let none : drop i (estimates_of fulls) ≡ [] = drop_of_length-le (estimates_of fulls) (omega arith) in
     let end = append-nil steps in
     cc
 

@@ -1,18 +1,9 @@
 -- Plans that a clock can be wound by, step after step.
 use Rattle.std.specs.Prelude.{◌≡◌, ℕ, ◌<◌, ◌≤◌, true, List, [], ◌∷◌}
-use Rattle.std.specs.List.{All, AllPairs}
-use Rattle.ff_hands.specs.Orders.{is_sane_estimate, is_sane}
-use Rattle.ff_hands.specs.declared.estimates.Estimate.{Estimate}
+use Rattle.ff_hands.specs.Orders.{is_sane}
 use Rattle.ff_hands.specs.declared.hands.Order.{Order}
 use Rattle.ff_hands.specs.declared.hands.Order.TheVariants as order
 use Rattle.replay_run.specs.declared.plan.PlanStep.{PlanStep}
-
--- estimates that a clock can take one after another: each is sane, and of a later count than count 0
--- and than each one before it
-pub record AreTaken (es : List Estimate) : Type 0 where
-  pub sane : All (λ e. is_sane_estimate e ≡ true) es
-  pub late : All (λ e. 0 < e.update_ffcount) es
-  pub rising : AllPairs (λ e later. e.update_ffcount < later.update_ffcount) es
 
 -- the count of a clock's estimate after an order
 abbrev pub update_after : ℕ → Order → ℕ

@@ -1,3 +1,3 @@
 pub mod Plans
 pub mod Fitting
-pub mod Folds
+pub mod Journals

@@ -1,19 +1,17 @@
 -- The plan of a replay: which orders the clock is given, and at which counts.
-use Rattle.std.specs.Prelude.{ℕ, ◌+◌, ◌-◌, ◌*◌, ◌/◌, List, [], ◌∷◌, ◌++◌, map}
+use Rattle.std.specs.Prelude.{ℕ, ◌+◌, ◌-◌, ◌*◌, ◌/◌, ◌≤◌, List, [], ◌∷◌, ◌++◌, map}
 use Rattle.std.specs.List.{range_with_len}
-use Rattle.std.specs.List.Sorted.{IsNonDecreasingBy}
 use Rattle.ff_hands.specs.Windups.{start_time, reset_estimate}
 use Rattle.ff_hands.specs.declared.estimates.Estimate.{Estimate}
 use Rattle.ff_hands.specs.declared.hands.Order.TheVariants as order
-use Rattle.ff_estimator.specs.declared.fulls.Full.{Full}
+use Rattle.replay_run.specs.declared.plan.Options.{Options}
 use Rattle.replay_run.specs.declared.plan.PlanStep.{PlanStep}
 
--- no estimate is of a lower count than one before it
-abbrev pub NeverFall : List Full → Type 0
-NeverFall fulls = IsNonDecreasingBy (λ f. f.est.update_ffcount) fulls
-
-abbrev pub estimates_of : List Full → List Estimate
-estimates_of fulls = map (λ f. f.est) fulls
+-- at most 15 plain steps between two estimates, 16 readers, and 16384 reads of each
+pub record AreOptionsInRange (o : Options) : Type 0 where
+  pub ticks : o.ticks ≤ 15
+  pub readers : o.readers ≤ 16
+  pub reads : o.reads ≤ 16384
 
 -- the clock is set to time 0 at count 0
 abbrev pub start_step : ℕ → PlanStep

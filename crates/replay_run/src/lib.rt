@@ -6,5 +6,8 @@ mod plan;
 #[cfg(test)]
 mod tests;
 
-pub use laws::{folds_grow, folds_never_fall, plans_fit, steps_are_counted, steps_wind};
+pub use laws::{
+    journals_are_legal, journals_are_the_only_ones, journals_take_each_estimate, plans_fit,
+    plans_take_each_estimate, steps_are_counted, steps_wind, targets_never_fall,
+};
 pub use plan::{Options, Plan, PlanStep};

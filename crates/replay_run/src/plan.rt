@@ -1,7 +1,9 @@
 // The plan of a replay.
-ghost use Rattle.std.specs.Prelude.{◌≡◌, ◌+◌, ◌-◌, ◌*◌, ◌^◌, ◌≤◌, ◌++◌, length, min, IfOk, OnOk};
-ghost use Rattle.ff_hands.specs.declared.estimates.Estimate.{Estimate};
-ghost use Rattle.replay_run.specs.Plans.{NeverFall, count_between, estimates_of, plan_of, steps_between};
+ghost use Rattle.std.specs.Prelude.{◌≡◌, ◌+◌, ◌-◌, ◌*◌, ◌^◌, ◌≤◌, ◌++◌, List, length, min, IfOk, OnOk};
+ghost use Rattle.stamp_text.specs.declared.lines.Stamp.{Stamp};
+ghost use Rattle.ff_estimator.specs.Folds.{estimates_of, AreOf};
+ghost use Rattle.replay_run.specs.Fitting.{PlanFits};
+ghost use Rattle.replay_run.specs.Plans.{AreOptionsInRange, count_between, plan_of, steps_between};
 
 use ff_estimator::Full;
 use ff_grain::{Bintime, NoMemory};
@@ -78,18 +80,20 @@ fn push_between(steps: &mut Vec<PlanStep>, from: u64, to: u64, ticks: u32) -> Re
 }
 
 impl Plan {
-    /// The plan to replay the estimates of a daemon for a counter of `freq` Hz, from 10^6 to 16*10^9.
+    /// The plan to replay the estimates of one daemon for a counter of `freq` Hz, from 10^6 to
+    /// 16*10^9, by options in range. A clock that was never set can be wound by it.
     ///
     /// Step 0 resets the clock to the time 0 at the count 0. Each estimate is then taken at its own
-    /// count, and between two estimates the clock goes on at evenly spread counts, rounded down. The
-    /// counts of the estimates may not fall.
+    /// count, and between two estimates the clock goes on at evenly spread counts, rounded down.
     ///
     /// It takes all its memory here, and want of it is the only error.
     pub fn of(alloc: Global, freq: u64, fulls: &[Full], options: &Options) -> Result<Plan, NoMemory>
         requires low { 1000000 ≤ freq }
         requires high { freq ≤ 16000000000 }
-        requires counts { NeverFall fulls.now }
-        ensures { IfOk result (λ p. (p.freq ≡ freq) × (p.options ≡ options.now) × (p.steps.items ≡ plan_of freq (estimates_of fulls.now) options.now.ticks)) }
+        requires of { (all : List Stamp) × AreOf fulls.now freq all }
+        requires options { AreOptionsInRange options.now }
+        ensures plan { IfOk result (λ p. (p.freq ≡ freq) × (p.options ≡ options.now) × (p.steps.items ≡ plan_of freq (estimates_of fulls.now) options.now.ticks)) }
+        ensures fits { IfOk result (λ p. PlanFits 0 0 p.steps.items) }
     {
         let ticks = options.ticks;
         let mut steps = Vec::with_capacity(alloc, room_for(fulls.len(), ticks))?;

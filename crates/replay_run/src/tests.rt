@@ -1,92 +1,125 @@
-// Plans by the rule.
-ghost use Rattle.std.specs.Prelude.{◌≡◌, ◌≤◌};
+// Plans of what a daemon said of stamps.
+ghost use Rattle.std.specs.Prelude.{◌≡◌, ◌<◌, List, IfOk};
+ghost use Rattle.stamp_text.specs.Accepted.{IsInRange};
+ghost use Rattle.stamp_text.specs.declared.lines.Stamp.{Stamp};
+ghost use Rattle.ff_estimator.specs.Folds.{AreOf};
 
-use crate::{Options, Plan, PlanStep};
-use ff_estimator::Full;
-use ff_grain::{Bintime, NoMemory};
-use ff_hands::{Order, reset_estimate};
-use rate_pair::nominal;
+use crate::{Options, Plan};
+use ff_estimator::{Daemon, Fed, Full};
+use ff_grain::{NoMemory, from_nanos};
+use ff_hands::Order;
+use stamp_text::Stamp;
 use std::alloc::Global;
+use std::marker::Brand;
+use std::sync::ledger::{Blank, Ledger};
 use std::test::Fail;
+use step_count::Steps;
 
 const FREQ: u64 = 1_000_000_000;
 
-const START: Bintime = Bintime { sec: 0, frac: 0 };
+/// The greatest count of a stamp.
+const MOST: u64 = (1 << 62) - 1;
 
-// What a daemon may say at a count.
-fn full_at(count: u64) -> Full
-    ensures { result.est.update_ffcount ≡ count }
+// A stamp's counters, and between them the second of both of the server's times.
+type Columns = (u64, u32, u64);
+
+fn stamp_of(columns: Columns) -> Stamp
+    ensures { IsInRange result }
 {
-    Full {
-        est: reset_estimate(START, count, FREQ),
-        spread: 0,
-        rate: nominal(FREQ),
-        shifted: false,
-        local: false,
-        predicted: false,
+    let (ta, second, tf) = columns;
+    let time = from_nanos(u64::from(second), 0);
+    Stamp {
+        ta: ta.min(MOST),
+        tb: time,
+        te: time,
+        tf: tf.min(MOST),
     }
 }
 
-fn plan_of_two(alloc: Global, first: u64, second: u64, ticks: u32) -> Result<Plan, NoMemory>
-    requires { first ≤ second }
+// What a daemon says of the stamps that it accepts, under a blank.
+fn fulls_under<L: Ledger>(
+    alloc: Global,
+    rows: &[Columns],
+    blank: Blank,
+) -> Result<Vec<Full>, NoMemory>
+    requires name { blank.name ≡ L.name }
+    requires parts { blank.parts ≡ L.parts }
+    requires some { 0 < blank.parts }
+    ensures { IfOk result (λ fulls. (all : List Stamp) × AreOf fulls.items 1000000000 all) }
 {
+    let mut steps = Steps::<L>::new(blank);
+    let mut daemon = Daemon::new(alloc, FREQ)?;
+    let mut fulls = Vec::new(alloc);
+    for columns in rows {
+        match daemon.feed(stamp_of(*columns), &mut steps) {
+            Fed::Estimate(full) => fulls.push(full)?,
+            Fed::Refused(_) => {}
+        }
+    }
+    Ok(fulls)
+}
+
+// The plan to replay it.
+fn plan_of(alloc: Global, rows: &[Columns], ticks: u32) -> Result<Plan, NoMemory> {
     let options = Options {
-        ticks,
+        ticks: ticks.min(15),
         readers: 2,
         reads: 3,
         back: true,
         crank: false,
     };
-    Plan::of(alloc, FREQ, &[full_at(first), full_at(second)], &options)
+    let fulls = fulls_under::<Brand>(alloc, rows, Blank::new(1))?;
+    Plan::of(alloc, FREQ, &fulls, &options)
 }
 
-fn reset() -> PlanStep {
-    PlanStep {
-        to: 0,
-        order: Order::Reset(reset_estimate(START, 0, FREQ)),
-    }
-}
-
-fn plain(to: u64) -> PlanStep {
-    PlanStep {
-        to,
-        order: Order::Plain,
-    }
-}
-
-fn take(to: u64) -> PlanStep {
-    PlanStep {
-        to,
-        order: Order::Take(full_at(to).est),
+// What a step does, in a word.
+fn word_of(order: Order) -> &'static str {
+    match order {
+        Order::Plain => "plain",
+        Order::Take(_) => "take",
+        Order::Reset(_) => "reset",
     }
 }
 
 #[test]
 fn plans_have_their_steps(rt: HostRuntime) -> Result<(), Fail> {
-    let one = plan_of_two(rt.alloc(), 1_000_100_000, 17_000_100_000, 1)?;
-    let wanted = [
-        reset(),
-        take(1_000_100_000),
-        plain(9_000_100_000),
-        take(17_000_100_000),
-    ];
-    assert_eq!(rt; one.steps.as_slice(), wanted.as_slice());
-    assert_eq!(rt; one.options.reads, 3);
-
     // Fifths of 13 counts are 2.6 counts.
-    let four = plan_of_two(rt.alloc(), 10, 23, 4)?;
-    let wanted = [
-        reset(),
-        take(10),
-        plain(12),
-        plain(15),
-        plain(17),
-        plain(20),
-        take(23),
+    let rows: [(&[Columns], u32, &[(u64, &str)]); 3] = [
+        (&[], 4, &[(0, "reset")]),
+        (
+            &[
+                (1_000_000_000, 1_700_000_000, 1_000_100_000),
+                (17_000_000_000, 1_700_000_016, 17_000_100_000),
+            ],
+            1,
+            &[
+                (0, "reset"),
+                (1_000_100_000, "take"),
+                (9_000_100_000, "plain"),
+                (17_000_100_000, "take"),
+            ],
+        ),
+        (
+            &[(5, 1, 10), (15, 1, 23)],
+            4,
+            &[
+                (0, "reset"),
+                (10, "take"),
+                (12, "plain"),
+                (15, "plain"),
+                (17, "plain"),
+                (20, "plain"),
+                (23, "take"),
+            ],
+        ),
     ];
-    assert_eq!(rt; four.steps.as_slice(), wanted.as_slice());
-
-    let none = Plan::of(rt.alloc(), FREQ, &[], &four.options)?;
-    assert_eq!(rt; none.steps.as_slice(), [reset()].as_slice());
+    for (stamps, ticks, wanted) in rows {
+        let plan = plan_of(rt.alloc(), stamps, ticks)?;
+        assert_eq!(rt; plan.steps.len(), wanted.len());
+        for (step, (to, word)) in plan.steps.iter().zip(wanted) {
+            assert_eq!(rt; step.to, *to);
+            assert_eq!(rt; word_of(step.order), *word);
+        }
+    }
     Ok(())
 }

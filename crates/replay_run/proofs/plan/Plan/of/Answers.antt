@@ -1,6 +1,9 @@
-use Rattle.std.proofs.Common.{rules, ap, ◌∙◌}
+use Rattle.std.proofs.Common.{rules, sym, ap, ◌∙◌, subst, arith}
 use Rattle.std.specs.Vec.{vec_items}
-use Rattle.replay_run.proofs.Steps.{plan_of-starts, taken-more, taken-last}
+use Rattle.ff_estimator.proofs.Folds.{of-rises}
+use Rattle.replay_run.specs.Fitting.{PlanFits}
+use Rattle.replay_run.proofs.Fits.{of-plan-fits}
+use Rattle.replay_run.proofs.Steps.{plan_of-starts, taken-more, taken-last, taken-all}
 use Rattle.replay_run.proofs.plan.Plan.of.Goals as goal
 use Rattle.replay_run.proofs.plan.Plan.of.Goals.{then-i-fulls+in_ok-push_between, else-i-fulls}
 
@@ -13,3 +16,9 @@ loop-i-preserved c =
       | then-i-fulls+in_ok-push_between w ↦ taken-more _ _ _ _ _ _ _ _ c.loop-i.invariant c.in_ok-push-2.ensures.items (ap vec_items w.steps-is ∙ w.in_ok-push_between.ensures) w.if-i-fulls.true
       | else-i-fulls w ↦ taken-last _ _ _ _ _ _ _ c.loop-i.invariant (ap vec_items w.steps-is ∙ c.in_ok-push-2.ensures.items) c.loop-i-test.true w.if-i-fulls.false
     ]
+
+pub push_between-requires : goal.push_between-requires
+push_between-requires c = record { order = of-rises c.args.fulls.now c.args.freq c.requires.of.0 c.loop-i.i _ c.requires.of.1 c.if-i-fulls.true }
+
+pub returns-clause-fits : goal.returns-clause-fits
+returns-clause-fits c = subst (PlanFits 0 0) (sym (taken-all _ _ c.args.fulls.now c.loop-i.i _ c.loop-i.invariant (omega arith))) (of-plan-fits c.args.freq c.args.fulls.now c.requires.of.0 c.args.options.now.ticks c.requires.low c.requires.of.1)

@@ -1,5 +1,6 @@
 use Rattle.std.proofs.Common.{◌≡◌, ◌++◌, drop}
-use Rattle.replay_run.specs.Plans.{estimates_of, steps_from, plan_of}
+use Rattle.ff_estimator.specs.Folds.{estimates_of}
+use Rattle.replay_run.specs.Plans.{steps_from, plan_of}
 use Rattle.replay_run.proofs.plan.Plan.of.Given as goal
 
 abbrev pub invariant-loop-i : goal.invariant-loop-i

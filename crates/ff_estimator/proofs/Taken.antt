@@ -1,17 +1,15 @@
 -- Estimates that a clock can take one after another.
-use Rattle.std.proofs.Common.{◌≡◌, ◌<◌, ◌≤◌, Bool, true, false, T, ◌&&◌, nat_lt, pos, negsuc, int_le, int_lt, inl, inr, List, [], ◌∷◌, length, map, get_or, refl, sym, ap, subst, arith}
+use Rattle.std.proofs.Common.{◌≡◌, ◌<◌, Bool, true, false, T, ◌&&◌, nat_lt, pos, negsuc, int_le, int_lt, List, [], ◌∷◌, length, map, get_or, refl, sym, subst, arith}
 use Rattle.std.specs.List.{All, AllPairs}
 use Rattle.std.proofs.lemmas.Bool.Decides.{nat_tests}
 use Rattle.std.proofs.lemmas.List.{length-map, get_or-map}
 use Rattle.std.proofs.lemmas.List.Elements.{All-map}
-use Rattle.std.proofs.lemmas.Bool.{cases_eq}
 use Rattle.ff_grain.specs.Grains.{number_of}
 use Rattle.ff_hands.specs.Bounds.{IsSane}
 use Rattle.ff_hands.specs.Orders.{is_sane_estimate}
 use Rattle.ff_hands.specs.declared.estimates.Estimate.{Estimate}
 use Rattle.ff_estimator.specs.declared.fulls.Full.{Full}
-use Rattle.replay_run.specs.Plans.{NeverFall, estimates_of}
-use Rattle.replay_run.specs.Fitting.{AreTaken}
+use Rattle.ff_estimator.specs.Folds.{estimates_of, AreTaken}
 
 pub and_both : (a b : Bool) → a ≡ true → b ≡ true → (a && b) ≡ true
 and_both a b p q = grind (arith, nat_tests)
@@ -48,10 +46,3 @@ are-taken fulls sane late rising = record {
   late = All-map (λ e. 0 < e.update_ffcount) (λ f. f.est) fulls late;
   rising = all-pairs-map (λ e later. e.update_ffcount < later.update_ffcount) (λ f. f.est) fulls rising;
 }
-
--- counts that rise never fall
-pub never-fall : (fulls : List Full) → AllPairs (λ f later. f.est.update_ffcount < later.est.update_ffcount) fulls → NeverFall fulls
-never-fall fulls rising i j d order within = elim (cases_eq i j) as (λ o. (get_or fulls i d).est.update_ffcount ≤ (get_or fulls j d).est.update_ffcount) [
-  | inl same ↦ (let e = ap (λ k. (get_or fulls k d).est.update_ffcount) same in omega arith)
-  | inr other ↦ (let e = rising i j d (omega arith) within in omega arith)
-]

@@ -1,0 +1,166 @@
+-- The command that words are, and the lines of the program.
+use Rattle.std.proofs.Common.{◌≡◌, ◌≢◌, ◌↔◌, ◌⊎◌, ◌&&◌, ◌||◌, ◌==◌, ◌^◌, ◌-◌, ℕ, List, [], ◌∷◌, Bool, true, false, Option, Some, None, codes, if◌then◌else◌, refl, ap, sym, ◌∙◌, subst, inl, inr, cond, true≢false, nat_le}
+use Rattle.std.specs.Prelude.{Result, Ok, Err, IfOk, IsErrAnd, MatchResult, option_map, option_and_then}
+use Rattle.std.specs.List.{IsDistinct}
+use Rattle.std.specs.Option.{option_zip}
+use Rattle.std.specs.Str.{bytes_eq}
+use Rattle.std.proofs.lemmas.Bool.{eqb-true}
+use Rattle.std.proofs.lemmas.Slice.Eq.{bytes_eq-Decides}
+use Rattle.stamp_text.specs.Digits.{is_number, number_in}
+use Rattle.clock_words.specs.Rows.{Text, Row, Item, has, is_value, items_in, items_from, value_of}
+use Rattle.clock_words.specs.Parts.{AreParts, AreWritten, nothing, flag, apart, joined, placed}
+use Rattle.clock_words.specs.Lines.{IsLine, stamps, rtt, estimate, ticks, make, bare_row, ticks_row, make_row, ticks_name, number_name, count_name, most_ticks, most_made, within, number_within, option_within, ticks_of, make_of, command_in, command_named}
+use Rattle.clock_words.specs.declared.commands.Command.{Command}
+use Rattle.clock_words.specs.declared.commands.Command.TheVariants as command
+use Rattle.clock_words.specs.declared.commands.Report.{Report}
+use Rattle.clock_words.specs.declared.commands.Report.TheVariants as report
+use Rattle.clock_words.proofs.Written.{written}
+
+-- no words are parts of a row that has none
+no_parts : (left words : List Text) (items : List Item) → AreParts bare_row left words items → left ≡ [] → words ≡ []
+no_parts left words items (nothing l) e = refl
+no_parts left words items (flag n l ws is h rest) e = absurd (true≢false (sym h))
+no_parts left words items (apart n v l ws is h u rest) e = absurd (true≢false (sym h))
+no_parts left words items (joined n v l ws is h rest) e = absurd (true≢false (sym h))
+no_parts left words items (placed n v l ws is u rest) e = absurd (let q : n ∷ l ≡ [] = e in cc)
+
+-- words are the values of the places, from the first on, where a row has nothing else
+abbrev AreValues : List Text → List Text → List Item → Type 0
+AreValues [] left items = items ≡ []
+AreValues (w ∷ ws) [] items = ⊥
+AreValues (w ∷ ws) (n ∷ ns) items = (rest : List Item) × (items ≡ (n, w) ∷ rest) × AreValues ws ns rest
+
+are_values : (left words : List Text) (items : List Item) → AreParts make_row left words items → AreValues words left items
+are_values left words items (nothing l) = refl
+are_values left words items (flag n l ws is h rest) = absurd (true≢false (sym h))
+are_values left words items (apart n v l ws is h u rest) = absurd (true≢false (sym h))
+are_values left words items (joined n v l ws is h rest) = absurd (true≢false (sym h))
+are_values left words items (placed n v l ws is u rest) = (is, refl, are_values l ws is rest)
+
+-- ---- from a command to a line
+
+bare_line : (r : Report) (name : Text) (words : List Text) (c : Command) → IsLine (name ∷ []) (command.Report r) → option_map (λ items. command.Report r) (items_in bare_row words) ≡ Some c → IsLine (name ∷ words) c
+bare_line r name words c line e = by_items (items_in bare_row words) refl
+  where
+    by_items : (x : Option (List Item)) → items_in bare_row words ≡ x → IsLine (name ∷ words) c
+    by_items None f = absurd (let q : None ≡ Some c = sym (rw f refl) ∙ e in cc)
+    by_items (Some items) f =
+        let none : words ≡ [] = no_parts [] words items ((written bare_row refl words items).0 f).parts refl in
+        let same : Some (command.Report r) ≡ Some c = sym (rw f refl) ∙ e in
+        subst (λ (ws : List Text). IsLine (name ∷ ws) c) (sym none) (subst (IsLine (name ∷ [])) (let q : command.Report r ≡ c = cc in q) line)
+
+ticks_line : (words : List Text) (c : Command) → option_and_then ticks_of (items_in ticks_row words) ≡ Some c → IsLine (codes "ticks" ∷ words) c
+ticks_line words c e = by_items (items_in ticks_row words) refl
+  where
+    by_value : (items : List Item) → items_in ticks_row words ≡ Some items → (n : Option ℕ) → option_within 0 most_ticks 4 (value_of ticks_name items) ≡ n → option_map (λ n. command.Report (report.Ticks n)) n ≡ Some c → IsLine (codes "ticks" ∷ words) c
+    by_value items f None g h = absurd (let q : None ≡ Some c = h in cc)
+    by_value items f (Some n) g h = subst (IsLine (codes "ticks" ∷ words)) (let q : command.Report (report.Ticks n) ≡ c = cc in q) (ticks words items n ((written ticks_row refl words items).0 f) g)
+
+    by_items : (x : Option (List Item)) → items_in ticks_row words ≡ x → IsLine (codes "ticks" ∷ words) c
+    by_items None f = absurd (let q : None ≡ Some c = sym (rw f refl) ∙ e in cc)
+    by_items (Some items) f = by_value items f (option_within 0 most_ticks 4 (value_of ticks_name items)) refl (sym (rw f refl) ∙ e)
+
+-- what is made of two numbers
+abbrev made_of : Option ℕ → Option ℕ → Option Command
+made_of a b = option_map (λ p. command.Make p.0 p.1) (option_zip a b)
+
+make_two : (first second : Text) (c : Command) → made_of (number_within 0 (2 ^ 32 - 1) first) (number_within 1 most_made second) ≡ Some c → IsLine (codes "make" ∷ first ∷ second ∷ []) c
+make_two first second c e = by_numbers (number_within 0 (2 ^ 32 - 1) first) refl (number_within 1 most_made second) refl e
+  where
+    by_numbers : (a : Option ℕ) → number_within 0 (2 ^ 32 - 1) first ≡ a → (b : Option ℕ) → number_within 1 most_made second ≡ b → made_of a b ≡ Some c → IsLine (codes "make" ∷ first ∷ second ∷ []) c
+    by_numbers None f b g h = absurd (let q : None ≡ Some c = h in cc)
+    by_numbers (Some n) f None g h = absurd (let q : None ≡ Some c = h in cc)
+    by_numbers (Some n) f (Some k) g h = subst (IsLine (codes "make" ∷ first ∷ second ∷ [])) (let q : command.Make n k ≡ c = cc in q) (make first second n k f g)
+
+no_pair : (a : Option ℕ) (c : Command) → made_of a None ≡ Some c → ⊥
+no_pair None c e = cc
+no_pair (Some n) c e = cc
+
+make_items : (words : List Text) (items : List Item) (c : Command) → AreValues words (number_name ∷ count_name ∷ []) items → make_of items ≡ Some c → IsLine (codes "make" ∷ words) c
+make_items [] items c a e = absurd (let q : None ≡ Some c = sym (ap make_of a) ∙ e in cc)
+make_items (v ∷ []) items c a e =
+    let one : items ≡ (number_name, v) ∷ [] = a.1 ∙ ap (λ is. (number_name, v) ∷ is) a.2 in
+    absurd (no_pair (number_within 0 (2 ^ 32 - 1) v) c (sym (ap make_of one) ∙ e))
+make_items (v ∷ w ∷ []) items c a e =
+    let two : items ≡ (number_name, v) ∷ (count_name, w) ∷ [] = a.1 ∙ ap (λ is. (number_name, v) ∷ is) (a.2.1 ∙ ap (λ is. (count_name, w) ∷ is) a.2.2) in
+    make_two v w c (sym (ap make_of two) ∙ e)
+make_items (v ∷ w ∷ x ∷ xs) items c a e = absurd (a.2.2)
+
+make_line : (words : List Text) (c : Command) → option_and_then make_of (items_in make_row words) ≡ Some c → IsLine (codes "make" ∷ words) c
+make_line words c e = by_items (items_in make_row words) refl
+  where
+    by_items : (x : Option (List Item)) → items_in make_row words ≡ x → IsLine (codes "make" ∷ words) c
+    by_items None f = absurd (let q : None ≡ Some c = sym (rw f refl) ∙ e in cc)
+    by_items (Some items) f = make_items words items c (are_values _ words items ((written make_row refl words items).0 f).parts) (sym (rw f refl) ∙ e)
+
+-- words that begin with a name, or with another one
+named_line : (name m : Text) (words : List Text) (c : Command) → (a b : Option Command) → (a ≡ Some c → IsLine (m ∷ words) c) → (b ≡ Some c → IsLine (name ∷ words) c) → (if bytes_eq name m then a else b) ≡ Some c → IsLine (name ∷ words) c
+named_line name m words c a b here other e = by_name (bytes_eq name m) refl
+  where
+    by_name : (x : Bool) → bytes_eq name m ≡ x → IsLine (name ∷ words) c
+    by_name true f = subst (λ (n : Text). IsLine (n ∷ words) c) (sym ((bytes_eq-Decides name m).0 f)) (here (sym (rw f refl) ∙ e))
+    by_name false f = other (sym (rw f refl) ∙ e)
+
+to_line : (words : List Text) (c : Command) → command_in words ≡ Some c → IsLine words c
+unfolding command_in
+to_line [] c e = absurd (let q : None ≡ Some c = e in cc)
+to_line (name ∷ words) c e =
+    named_line name (codes "stamps") words c _ _ (bare_line report.Stamps (codes "stamps") words c stamps)
+    (named_line name (codes "rtt") words c _ _ (bare_line report.Rtt (codes "rtt") words c rtt)
+    (named_line name (codes "estimate") words c _ _ (bare_line report.Estimate (codes "estimate") words c estimate)
+    (named_line name (codes "ticks") words c _ _ (ticks_line words c)
+    (named_line name (codes "make") words c _ _ (make_line words c) (λ h. absurd (let q : None ≡ Some c = h in cc)))))) e
+
+-- ---- from a line to a command
+
+is_some_within : (least most : ℕ) (x : Option ℕ) (n : ℕ) → within least most x ≡ Some n → x ≢ None
+is_some_within least most None n e h = cc
+is_some_within least most (Some m) n e h = cc
+
+-- a number does not begin with `-`
+number_plain : (text : Text) → number_in text ≢ None → (is_value text ≡ true) × (bytes_eq text (codes "--") ≡ false)
+number_plain [] some = absurd (some refl)
+number_plain (x ∷ xs) some = by_dash (x == 45) refl
+  where
+    no_dash : (ys : Text) → is_number 45 ys ≡ false
+    no_dash [] = refl
+    no_dash (y ∷ ys) = refl
+
+    by_dash : (b : Bool) → (x == 45) ≡ b → (is_value (x ∷ xs) ≡ true) × (bytes_eq (x ∷ xs) (codes "--") ≡ false)
+    by_dash true f =
+        let none : is_number x xs ≡ false = ap (λ k. is_number k xs) (eqb-true x 45 f) ∙ no_dash xs in
+        absurd (some (rw none refl))
+    by_dash false f = (rw f refl, rw f refl)
+
+place_plain : (least most : ℕ) (text : Text) (n : ℕ) → number_within least most text ≡ Some n → (is_value text ≡ true) × (bytes_eq text (codes "--") ≡ false)
+place_plain least most text n e = number_plain text (is_some_within least most (number_in text) n e)
+
+pair_written : (first second : Text) → (is_value first ≡ true) × (bytes_eq first (codes "--") ≡ false) → (is_value second ≡ true) × (bytes_eq second (codes "--") ≡ false)
+    → AreWritten make_row (first ∷ second ∷ []) ((number_name, first) ∷ (count_name, second) ∷ [])
+unfolding IsDistinct
+pair_written first second a b = record {
+  parts = placed number_name first _ _ _ a.0 (placed count_name second _ _ _ b.0 (nothing []));
+  once = ((refl, tt), (tt, tt));
+  no_dashes = rw (a.1, b.1) refl;
+}
+
+to_command : (words : List Text) (c : Command) → IsLine words c → command_in words ≡ Some c
+unfolding command_in items_in items_from
+to_command words c stamps = refl
+to_command words c rtt = refl
+to_command words c estimate = refl
+to_command words c (ticks rest items n w h) = ap (option_and_then ticks_of) ((written ticks_row refl rest items).1 w) ∙ ap (option_map (λ n. command.Report (report.Ticks n))) h
+to_command words c (make first second number count f g) =
+    ap (option_and_then make_of) ((written make_row refl _ _).1 (pair_written first second (place_plain _ _ first number f) (place_plain _ _ second count g)))
+    ∙ ap (λ a. made_of a (number_within 1 most_made second)) f ∙ ap (made_of (Some number)) g
+
+-- words are a command exactly where they are a line of it
+pub lined : (words : List Text) (c : Command) → (command_in words ≡ Some c) ↔ IsLine words c
+lined words c = (to_line words c, to_command words c)
+
+-- what an answer says of a line, its error replaced
+pub line_mapped : {E D : Type 0} (words : List Text) (P : E → D → Type 0) (r : Result (Option Command) E) (s : Result (Option Command) D) → MatchResult r (λ x. s ≡ Ok x) (λ e. IsErrAnd s (P e)) → IfOk r (λ found. found ≡ command_in words)
+    → IfOk s (λ found. (c : Command) → (found ≡ Some c) ↔ IsLine words c)
+line_mapped words P (Ok found) s same is = subst (λ t. IfOk t (λ found. (c : Command) → (found ≡ Some c) ↔ IsLine words c)) (sym same) (λ c. (λ h. to_line words c (sym is ∙ h), λ line. is ∙ to_command words c line))
+line_mapped words P (Err e) (Err d) fails is = tt
+line_mapped words P (Err e) (Ok found) fails is = absurd fails
