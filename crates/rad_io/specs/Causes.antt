@@ -2,12 +2,12 @@
 use Rattle.std.specs.Prelude.{◌≡◌, ℕ, ◌+◌, ◌-◌, ◌^◌, ◌≤◌, min, Result, OnErr, OnOk}
 
 -- one fault more, up to the last value of the count
-abbrev pub raised : ℕ → ℕ
-raised count = min (count + 1) (2 ^ 64 - 1)
+abbrev pub counted_on : ℕ → ℕ
+counted_on count = min (count + 1) (2 ^ 64 - 1)
 
 -- the count of faults rose, or stands at its last value
 abbrev pub Rose : ℕ → ℕ → Type 0
-Rose before now = raised before ≤ now
+Rose before now = counted_on before ≤ now
 
 -- the count never falls, an error comes only where it rose, and an `Ok` leaves it as it was
 pub record HasCause {T E : Type 0} (before now : ℕ) (result : Result T E) : Type 0 where

@@ -1,4 +1,5 @@
 pub mod Causes
+pub mod Calls
 pub mod Bytes
 pub mod Memory
 pub mod Streams

@@ -3,7 +3,7 @@ use Rattle.std.specs.Prelude.{◌≡◌, ℕ, ◌+◌, ◌/◌, ◌<◌, ◌⊎�
 use Rattle.std.specs.Io.{ReadsAtMost}
 use Rattle.std.specs.Io.KnownBytes.{ReadConsumes}
 use Rattle.rad_io.specs.Bytes.{PushAppends}
-use Rattle.rad_io.specs.Causes.{raised, HasCause}
+use Rattle.rad_io.specs.Causes.{counted_on, HasCause}
 use Rattle.rad_io.specs.declared.Failed.{Failed}
 
 -- what is left, the most bytes of a pull, the numbers of the pulls that fail, the number of the
@@ -26,8 +26,8 @@ pub record SupplyGives (old : Supply) (room : List ℕ) (result : Result ℕ Fai
   pub within : ReadsAtMost result room'
   pub bytes : ReadConsumes (Some old.left) (Some new.left) result room'
   pub cause : HasCause old.faults new.faults result
-  pub rose : OnErr result (new.faults ≡ raised old.faults)
-  pub number : new.pulls ≡ raised old.pulls
+  pub rose : OnErr result (new.faults ≡ counted_on old.faults)
+  pub number : new.pulls ≡ counted_on old.pulls
   pub step : new.step ≡ old.step
   pub failing : new.failing ≡ old.failing
 
@@ -54,7 +54,7 @@ pub record StoreGives (old : Store) (piece : List ℕ) (result : Result (Unit {0
   pub bytes : PushAppends (Some old.written) (Some new.written) result piece
   pub part : OnErr result (new.written ≡ old.written ++ part_of old piece)
   pub cause : HasCause old.faults new.faults result
-  pub rose : OnErr result (new.faults ≡ raised old.faults)
-  pub number : new.pushes ≡ raised old.pushes
+  pub rose : OnErr result (new.faults ≡ counted_on old.faults)
+  pub number : new.pushes ≡ counted_on old.pushes
   pub room : new.room ≡ old.room
   pub failing : new.failing ≡ old.failing

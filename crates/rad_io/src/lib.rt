@@ -3,6 +3,7 @@
 #![tactic(auto)]
 
 mod blocks;
+mod calls;
 mod memory;
 mod sink;
 mod source;
@@ -11,6 +12,7 @@ mod streams;
 mod tests;
 
 pub use blocks::{BLOCK, BlockSink};
+pub use calls::{Reader, Writer};
 pub use memory::{MemSink, MemSource};
 pub use sink::Sink;
 pub use source::Source;

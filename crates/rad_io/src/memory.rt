@@ -24,7 +24,13 @@ impl Model for MemSource {
 
     ghost Value = { Supply };
 
-    ghost view = { λ s. record { left = drop s.taken s.bytes.items; step = s.step; failing = s.failing.items; pulls = s.pulls; faults = s.faults } };
+    ghost view = { λ s. record {
+      left = drop s.taken s.bytes.items;
+      step = s.step;
+      failing = s.failing.items;
+      pulls = s.pulls;
+      faults = s.faults;
+    } };
 
     ghost invariant = { λ s. (s.taken ≤ vec_len s.bytes) × (1 ≤ s.step) };
 }
@@ -34,7 +40,13 @@ impl MemSource {
     /// from 0, and those of the numbers in `failing` fail and take nothing.
     pub fn new(bytes: Vec<u8>, step: usize, failing: Vec<u64>) -> MemSource
         requires { 1 ≤ step }
-        ensures { result ≡ record { left = bytes.items; step = step; failing = failing.items; pulls = 0; faults = 0 } }
+        ensures { result ≡ record {
+          left = bytes.items;
+          step = step;
+          failing = failing.items;
+          pulls = 0;
+          faults = 0;
+        } }
     {
         MemSource {
             bytes,
@@ -100,7 +112,13 @@ impl Model for MemSink {
 
     ghost Value = { Store };
 
-    ghost view = { λ s. record { written = s.bytes.items; room = s.room; failing = s.failing.items; pushes = s.pushes; faults = s.faults } };
+    ghost view = { λ s. record {
+      written = s.bytes.items;
+      room = s.room;
+      failing = s.failing.items;
+      pushes = s.pushes;
+      faults = s.faults;
+    } };
 
     ghost invariant = { λ s. (vec_len s.bytes ≤ s.room) × (s.room ≤ vec_capacity s.bytes) };
 }
@@ -110,7 +128,13 @@ impl MemSink {
     /// in `failing` fail and append half of their piece, and one that does not fit fails and
     /// appends nothing. `NoMemory` where memory for the room is wanting.
     pub fn new(alloc: Global, room: usize, failing: Vec<u64>) -> Result<MemSink, NoMemory>
-        ensures { IfOk result (λ s. s ≡ record { written = []; room = room; failing = failing.items; pushes = 0; faults = 0 }) }
+        ensures { IfOk result (λ s. s ≡ record {
+          written = [];
+          room = room;
+          failing = failing.items;
+          pushes = 0;
+          faults = 0;
+        }) }
     {
         Ok(MemSink {
             bytes: Vec::with_capacity(alloc, room)?,

@@ -1,5 +1,6 @@
 // Where bytes go.
 ghost use Rattle.std.specs.Prelude.{ℕ, List, Option, Result};
+ghost use Rattle.rad_io.specs.Calls.{EachWrite};
 ghost use Rattle.rad_io.specs.Causes.{HasCause};
 ghost use Rattle.rad_io.specs.Bytes.{PushAppends};
 ghost use Rattle.rad_io.specs.declared.Failed.{Failed};
@@ -23,8 +24,9 @@ pub trait Sink {
         ensures once { push_gives self.old piece.now result self.new };
 
     /// The whole piece is appended, or a front of it.
-    ghost appends: { (old new : Self) (piece : List ℕ) (r : Result (Unit {0}) Failed) → push_gives old piece r new → PushAppends (written old) (written new) r piece };
+    ghost appends: { EachWrite push_gives (λ old new piece r.
+        PushAppends (written old) (written new) r piece) };
 
     /// A failing push has its cause.
-    ghost cause: { (old new : Self) (piece : List ℕ) (r : Result (Unit {0}) Failed) → push_gives old piece r new → HasCause (faults old) (faults new) r };
+    ghost cause: { EachWrite push_gives (λ old new piece r. HasCause (faults old) (faults new) r) };
 }

@@ -2,6 +2,7 @@
 ghost use Rattle.std.specs.Prelude.{ℕ, ◌<◌, List, length, Option, Result};
 ghost use Rattle.std.specs.Io.{ReadsAtMost};
 ghost use Rattle.std.specs.Io.KnownBytes.{ReadConsumes};
+ghost use Rattle.rad_io.specs.Calls.{EachRead};
 ghost use Rattle.rad_io.specs.Causes.{HasCause};
 ghost use Rattle.rad_io.specs.declared.Failed.{Failed};
 
@@ -26,11 +27,12 @@ pub trait Source {
         ensures once { pull_gives self.old room.old result room.new self.new };
 
     /// The count of bytes fits in the room.
-    ghost within: { (old new : Self) (room room' : List ℕ) (r : Result ℕ Failed) → pull_gives old room r room' new → ReadsAtMost r room' };
+    ghost within: { EachRead pull_gives (λ old new r room. ReadsAtMost r room) };
 
     /// The bytes come from the front of what is left.
-    ghost consumes: { (old new : Self) (room room' : List ℕ) (r : Result ℕ Failed) → pull_gives old room r room' new → ReadConsumes (left old) (left new) r room' };
+    ghost consumes: { EachRead pull_gives (λ old new r room.
+        ReadConsumes (left old) (left new) r room) };
 
     /// A failing pull has its cause.
-    ghost cause: { (old new : Self) (room room' : List ℕ) (r : Result ℕ Failed) → pull_gives old room r room' new → HasCause (faults old) (faults new) r };
+    ghost cause: { EachRead pull_gives (λ old new r room. HasCause (faults old) (faults new) r) };
 }

@@ -5,7 +5,7 @@ use Rattle.rad_io.proofs.streams.StdSinkSink.push.Given as goal
 abbrev pub invariant-loop-rest : goal.invariant-loop-rest
 invariant-loop-rest g l = record {
   same : l.self.faults ≡ l.initial.self.faults;
-  passed : Passed (g.W.Write.contents l.initial.self.writer) (g.W.Write.contents l.self.writer) l.piece l.rest;
+  passed : Passed g.W.Writer.contents g.W.Writer.write_gives l.initial.self.writer l.piece l.rest l.self.writer;
 }
 
 abbrev pub decreases-loop-rest : goal.decreases-loop-rest
