@@ -1,5 +1,5 @@
 -- The command that words are, and the lines of the program.
-use Rattle.std.proofs.Common.{◌≡◌, ◌≢◌, ◌↔◌, ◌⊎◌, ◌&&◌, ◌||◌, ◌==◌, ◌^◌, ◌-◌, ℕ, List, [], ◌∷◌, Bool, true, false, Option, Some, None, codes, if◌then◌else◌, refl, ap, sym, ◌∙◌, subst, inl, inr, cond, true≢false, nat_le}
+use Rattle.std.proofs.Common.{◌≡◌, ◌≢◌, ◌↔◌, ◌==◌, ◌^◌, ◌-◌, ℕ, List, [], ◌∷◌, Bool, true, false, Option, Some, None, codes, if◌then◌else◌, refl, ap, sym, ◌∙◌, subst, true≢false}
 use Rattle.std.specs.Prelude.{Result, Ok, Err, IfOk, IsErrAnd, MatchResult, option_map, option_and_then}
 use Rattle.std.specs.List.{IsDistinct}
 use Rattle.std.specs.Option.{option_zip}
@@ -7,9 +7,9 @@ use Rattle.std.specs.Str.{bytes_eq}
 use Rattle.std.proofs.lemmas.Bool.{eqb-true}
 use Rattle.std.proofs.lemmas.Slice.Eq.{bytes_eq-Decides}
 use Rattle.stamp_text.specs.Digits.{is_number, number_in}
-use Rattle.clock_words.specs.Rows.{Text, Row, Item, has, is_value, items_in, items_from, value_of}
+use Rattle.clock_words.specs.Rows.{Text, Item, is_value, items_in, items_from, value_of}
 use Rattle.clock_words.specs.Parts.{AreParts, AreWritten, nothing, flag, apart, joined, placed}
-use Rattle.clock_words.specs.Lines.{IsLine, stamps, rtt, estimate, ticks, make, bare_row, ticks_row, make_row, ticks_name, number_name, count_name, most_ticks, most_made, within, number_within, option_within, ticks_of, make_of, command_in, command_named}
+use Rattle.clock_words.specs.Lines.{IsLine, stamps, rtt, estimate, ticks, make, bare_row, ticks_row, make_row, ticks_name, number_name, count_name, most_ticks, most_made, within, number_within, option_within, ticks_of, make_of, command_in}
 use Rattle.clock_words.specs.declared.commands.Command.{Command}
 use Rattle.clock_words.specs.declared.commands.Command.TheVariants as command
 use Rattle.clock_words.specs.declared.commands.Report.{Report}

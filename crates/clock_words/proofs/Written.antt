@@ -1,22 +1,15 @@
 -- The items that words are, and the parts that they are written as.
-use Rattle.std.proofs.Common.{◌≡◌, ◌↔◌, ◌&&◌, ◌||◌, ◌==◌, ℕ, suc, ◌+◌, List, [], ◌∷◌, ◌++◌, Bool, true, false, not, Option, Some, None, codes, if◌then◌else◌, refl, ap, sym, ◌∙◌, subst, inl, inr, ◌⊎◌, cond, map, drop, take, true≢false, append-nil, append_assoc, is_some, slice_get, arith}
-use Rattle.std.specs.List.{AllByRecursion, IsDistinct, before_first, after_first, list_all, list_any, position_or_len}
+use Rattle.std.proofs.Common.{◌≡◌, ◌↔◌, ◌&&◌, ◌||◌, ◌==◌, ℕ, suc, ◌+◌, List, [], ◌∷◌, ◌++◌, Bool, true, false, not, Option, Some, None, codes, refl, ap, sym, ◌∙◌, subst, map, drop, take, true≢false, append-nil, append_assoc, is_some, slice_get, arith}
+use Rattle.std.specs.List.{AllByRecursion, IsDistinct, before_first, after_first, list_all, position_or_len}
 use Rattle.std.specs.Str.{bytes_eq, chars}
 use Rattle.std.proofs.lemmas.Bool.{eqb-true}
 use Rattle.std.proofs.lemmas.List.{take-append-drop}
 use Rattle.std.proofs.lemmas.Slice.Eq.{bytes_eq-Decides}
 use Rattle.clock_words.specs.Rows.{Text, Row, Item, has, named, cut_at_equals, is_given, is_value, from_part, items_from, items_in, with_item}
 use Rattle.clock_words.specs.Parts.{AreOnce, AreParts, AreWritten, nothing, flag, apart, joined, placed, dashed, dashed_with, has_equals, is_clear}
+use Rattle.clock_words.proofs.Bools.{and_true, or_false}
 
 -- ---- the names of a row
-
-and_is : (a b : Bool) → (a && b) ≡ true → (a ≡ true) × (b ≡ true)
-and_is true b e = (refl, e)
-and_is false b e = absurd (true≢false (sym e))
-
-or_is : (a b : Bool) → (a || b) ≡ false → (a ≡ false) × (b ≡ false)
-or_is true b e = absurd (true≢false e)
-or_is false b e = (refl, e)
 
 not_is : (b : Bool) → not b ≡ true → b ≡ false
 not_is true e = absurd (true≢false (sym e))
@@ -25,10 +18,10 @@ not_is false e = refl
 -- what all names pass, one of them does
 all_pass : (test : Text → Bool) (names : List Text) (n : Text) → list_all (λ m. not (test m)) names ≡ true → has names n ≡ true → test n ≡ false
 all_pass test [] n a h = absurd (true≢false (sym h))
-all_pass test (m ∷ ms) n a h = by_name (bytes_eq m n) refl (all_pass test ms n (and_is _ _ a).1)
+all_pass test (m ∷ ms) n a h = by_name (bytes_eq m n) refl (all_pass test ms n (and_true _ _ a).1)
   where
     by_name : (b : Bool) → bytes_eq m n ≡ b → (has ms n ≡ true → test n ≡ false) → test n ≡ false
-    by_name true e more = subst (λ k. test k ≡ false) ((bytes_eq-Decides m n).0 e) (not_is (test m) (and_is _ _ a).0)
+    by_name true e more = subst (λ k. test k ≡ false) ((bytes_eq-Decides m n).0 e) (not_is (test m) (and_true _ _ a).0)
     by_name false e more = more (sym (ap (λ b. b || has ms n) e) ∙ h)
 
 record Clear (row : Row) : Type 0 where
@@ -38,8 +31,8 @@ record Clear (row : Row) : Type 0 where
 
 clear : (row : Row) → is_clear row ≡ true → Clear row
 clear row e =
-    let p = and_is (list_all (λ n. not (has_equals n)) row.options && list_all (λ n. not (has_equals n)) row.flags) (list_all (λ n. not (has row.options n)) row.flags) e in
-    let q = and_is (list_all (λ n. not (has_equals n)) row.options) (list_all (λ n. not (has_equals n)) row.flags) p.0 in
+    let p = and_true (list_all (λ n. not (has_equals n)) row.options && list_all (λ n. not (has_equals n)) row.flags) (list_all (λ n. not (has row.options n)) row.flags) e in
+    let q = and_true (list_all (λ n. not (has_equals n)) row.options) (list_all (λ n. not (has_equals n)) row.flags) p.0 in
     record {
       option = λ n h. all_pass has_equals row.options n q.0 h;
       flag = λ n h. all_pass has_equals row.flags n q.1 h;
@@ -60,12 +53,12 @@ drop_more n x xs = ap (λ k. drop k (x ∷ xs)) (let e : 1 + n + 1 ≡ suc (n + 
 
 cut_none : (t : Text) → has_equals t ≡ false → before_first (λ b. b == 61) t ≡ t
 cut_none [] e = refl
-cut_none (x ∷ xs) e = let p = or_is (x == 61) (has_equals xs) e in rw (p.0) (take_more (to_equals xs) x xs ∙ ap (λ ys. x ∷ ys) (cut_none xs p.1))
+cut_none (x ∷ xs) e = let p = or_false (x == 61) (has_equals xs) e in rw (p.0) (take_more (to_equals xs) x xs ∙ ap (λ ys. x ∷ ys) (cut_none xs p.1))
 
 cut_some : (t v : Text) → has_equals t ≡ false → (before_first (λ b. b == 61) (t ++ codes "=" ++ v) ≡ t) × (after_first (λ b. b == 61) (t ++ codes "=" ++ v) ≡ v) × (has_equals (t ++ codes "=" ++ v) ≡ true)
 cut_some [] v e = (refl, refl, refl)
 cut_some (x ∷ xs) v e =
-    let p = or_is (x == 61) (has_equals xs) e in
+    let p = or_false (x == 61) (has_equals xs) e in
     let q = cut_some xs v p.1 in
     let n = to_equals (xs ++ codes "=" ++ v) in
     (rw (p.0) (take_more n x _ ∙ ap (λ ys. x ∷ ys) q.0), rw (p.0) (drop_more n x _ ∙ q.1), rw (p.0) (q.2))
@@ -156,7 +149,7 @@ once_more : (before : List Item) (n v : Text) → AreOnce before → is_given n 
 unfolding IsDistinct
 once_more [] n v once new = (tt, tt)
 once_more (x ∷ xs) n v once new =
-    let p = or_is (bytes_eq x.0 n) (is_given n xs) new in
+    let p = or_false (bytes_eq x.0 n) (is_given n xs) new in
     (all_last (λ m. bytes_eq x.0 m ≡ false) xs (n, v) once.0 p.0, once_more xs n v once.1 p.1)
 
 -- ---- from words to parts

@@ -1,5 +1,5 @@
 -- The lines of the program: the name of a command, and what its row has behind it.
-use Rattle.std.specs.Prelude.{◌≡◌, ℕ, ◌<◌, ◌≤◌, ◌^◌, ◌-◌, Bool, false, nat_le, if◌then◌else◌, List, [], ◌∷◌, Option, None, Some, codes, option_map, option_and_then}
+use Rattle.std.specs.Prelude.{◌≡◌, ◌↔◌, ℕ, ◌<◌, ◌≤◌, ◌^◌, ◌-◌, Bool, false, nat_le, if◌then◌else◌, List, [], ◌∷◌, Option, None, Some, codes, option_map, option_and_then}
 use Rattle.std.specs.Option.{option_zip}
 use Rattle.std.specs.Str.{bytes_eq}
 use Rattle.stamp_text.specs.Digits.{number_in}
@@ -69,6 +69,16 @@ ticks_of items = option_map (λ n. command.Report (report.Ticks n)) (option_with
 abbrev pub make_of : List Item → Option Command
 make_of items = option_map (λ p. command.Make p.0 p.1) (option_zip (place_within 0 (2 ^ 32 - 1) (value_of number_name items)) (place_within 1 most_made (value_of count_name items)))
 
+-- a report that has nothing behind its name
+abbrev pub bare_in : Report → List Text → Option Command
+bare_in r words = option_map (λ items. command.Report r) (items_in bare_row words)
+
+abbrev pub ticks_in : List Text → Option Command
+ticks_in words = option_and_then ticks_of (items_in ticks_row words)
+
+abbrev pub make_in : List Text → Option Command
+make_in words = option_and_then make_of (items_in make_row words)
+
 -- the names of the commands
 abbrev pub command_names : List Text
 command_names = codes "stamps" ∷ codes "rtt" ∷ codes "estimate" ∷ codes "ticks" ∷ codes "make" ∷ []
@@ -81,11 +91,11 @@ begins_with_name (name ∷ words) = has command_names name
 -- the command that has a name, with what the words behind it say
 abbrev pub command_named : Text → List Text → Option Command
 command_named name words =
-    if bytes_eq name (codes "stamps") then option_map (λ items. command.Report report.Stamps) (items_in bare_row words)
-    else (if bytes_eq name (codes "rtt") then option_map (λ items. command.Report report.Rtt) (items_in bare_row words)
-    else (if bytes_eq name (codes "estimate") then option_map (λ items. command.Report report.Estimate) (items_in bare_row words)
-    else (if bytes_eq name (codes "ticks") then option_and_then ticks_of (items_in ticks_row words)
-    else (if bytes_eq name (codes "make") then option_and_then make_of (items_in make_row words)
+    if bytes_eq name (codes "stamps") then bare_in report.Stamps words
+    else (if bytes_eq name (codes "rtt") then bare_in report.Rtt words
+    else (if bytes_eq name (codes "estimate") then bare_in report.Estimate words
+    else (if bytes_eq name (codes "ticks") then ticks_in words
+    else (if bytes_eq name (codes "make") then make_in words
     else None))))
 
 -- the command that words are, if they are a line
@@ -100,6 +110,10 @@ pub data IsLine : List Text → Command → Type 0 where
   estimate : IsLine (codes "estimate" ∷ []) (command.Report report.Estimate)
   ticks : (words : List Text) (items : List Item) (n : ℕ) → AreWritten ticks_row words items → option_within 0 most_ticks 4 (value_of ticks_name items) ≡ Some n → IsLine (codes "ticks" ∷ words) (command.Report (report.Ticks n))
   make : (first second : Text) (number count : ℕ) → number_within 0 (2 ^ 32 - 1) first ≡ Some number → number_within 1 most_made second ≡ Some count → IsLine (codes "make" ∷ first ∷ second ∷ []) (command.Make number count)
+
+-- what is found is the command of a line, and nothing where words are no line
+abbrev pub IsCommandOf : List Text → Option Command → Type 0
+IsCommandOf words found = (c : Command) → (found ≡ Some c) ↔ IsLine words c
 
 -- the numbers of a report are in their ranges
 abbrev pub IsReportInRange : Report → Type 0

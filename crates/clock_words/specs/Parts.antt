@@ -1,9 +1,9 @@
 -- How the words behind the name of a command are written: options and flags in any order, each at
 -- most once, and a value in each place.
-use Rattle.std.specs.Prelude.{◌≡◌, ◌++◌, ◌&&◌, ◌==◌, Bool, true, false, not, List, [], ◌∷◌, codes, map}
+use Rattle.std.specs.Prelude.{◌≡◌, ◌↔◌, ◌++◌, ◌&&◌, ◌==◌, Bool, true, false, not, List, [], ◌∷◌, Some, codes, map}
 use Rattle.std.specs.List.{IsDistinct, list_all, list_any}
 use Rattle.std.specs.Str.{bytes_eq}
-use Rattle.clock_words.specs.Rows.{Text, Row, Item, has, is_value}
+use Rattle.clock_words.specs.Rows.{Text, Row, Item, has, is_value, items_in}
 
 -- the word `--name`
 abbrev pub dashed : Text → Text
@@ -39,3 +39,7 @@ has_equals name = list_any (λ b. b == 61) name
 
 abbrev pub is_clear : Row → Bool
 is_clear row = list_all (λ n. not (has_equals n)) row.options && list_all (λ n. not (has_equals n)) row.flags && list_all (λ n. not (has row.options n)) row.flags
+
+-- the items that words are for a row are those of the parts that they are written as
+abbrev pub IsReadByParts : Row → Type 0
+IsReadByParts row = (words : List Text) (items : List Item) → (items_in row words ≡ Some items) ↔ AreWritten row words items

@@ -1,10 +1,8 @@
 // The lines of the program.
-ghost use Rattle.std.specs.Prelude.{◌≡◌, ◌↔◌, ◌≤◌, ◌<◌, ◌^◌, ◌-◌, IfOk, IfErr, OnErr, IfSome, Some, true, map, option_map, option_and_then};
+ghost use Rattle.std.specs.Prelude.{◌≡◌, ◌≤◌, ◌<◌, ◌^◌, ◌-◌, IfOk, IfErr, OnErr, IfSome, true};
 ghost use Rattle.clap.specs.Values.{kind_of};
-ghost use Rattle.clock_words.specs.Rows.{has, items_in};
-ghost use Rattle.clock_words.specs.declared.commands.Command.{Command};
-ghost use Rattle.clock_words.specs.declared.commands.Command.TheVariants as command;
-ghost use Rattle.clock_words.specs.Lines.{IsLine, IsReportInRange, IsCommandInRange, bare_row, ticks_row, make_row, number_within, ticks_of, make_of, command_names, begins_with_name, command_named, command_in};
+ghost use Rattle.clock_words.specs.Rows.{has, texts};
+ghost use Rattle.clock_words.specs.Lines.{IsCommandOf, IsCommandInRange, IsReportInRange, bare_in, ticks_in, make_in, number_within, command_names, begins_with_name, command_named, command_in};
 
 use crate::{Command, Report, rows};
 use clap::Error;
@@ -40,7 +38,7 @@ fn number_within(least: u64, most: u64, text: &str) -> Option<u64>
 // A report whose command has nothing behind its name.
 fn bare<'a>(alloc: Global, report: Report, words: &'a [&'a str]) -> Result<Option<Command>, Error>
     requires { IsReportInRange report }
-    ensures value { IfOk result (λ found. found ≡ option_map (λ items. command.Report report) (items_in bare_row (map (λ w. w.now) words.entry.now))) }
+    ensures value { IfOk result (λ found. found ≡ bare_in report (texts words.entry.now)) }
     ensures ranged { IfOk result (λ found. IfSome found IsCommandInRange) }
     ensures memory { IfErr result (λ e. kind_of e ≡ ErrorKind.OutOfMemory) }
 {
@@ -51,7 +49,7 @@ fn bare<'a>(alloc: Global, report: Report, words: &'a [&'a str]) -> Result<Optio
 }
 
 fn ticks<'a>(alloc: Global, words: &'a [&'a str]) -> Result<Option<Command>, Error>
-    ensures value { IfOk result (λ found. found ≡ option_and_then ticks_of (items_in ticks_row (map (λ w. w.now) words.entry.now))) }
+    ensures value { IfOk result (λ found. found ≡ ticks_in (texts words.entry.now)) }
     ensures ranged { IfOk result (λ found. IfSome found IsCommandInRange) }
     ensures memory { IfErr result (λ e. kind_of e ≡ ErrorKind.OutOfMemory) }
 {
@@ -71,7 +69,7 @@ fn ticks<'a>(alloc: Global, words: &'a [&'a str]) -> Result<Option<Command>, Err
 }
 
 fn make<'a>(alloc: Global, words: &'a [&'a str]) -> Result<Option<Command>, Error>
-    ensures value { IfOk result (λ found. found ≡ option_and_then make_of (items_in make_row (map (λ w. w.now) words.entry.now))) }
+    ensures value { IfOk result (λ found. found ≡ make_in (texts words.entry.now)) }
     ensures ranged { IfOk result (λ found. IfSome found IsCommandInRange) }
     ensures memory { IfErr result (λ e. kind_of e ≡ ErrorKind.OutOfMemory) }
 {
@@ -99,7 +97,7 @@ fn command_named<'a>(
     name: &str,
     words: &'a [&'a str],
 ) -> Result<Option<Command>, Error>
-    ensures value { IfOk result (λ found. found ≡ command_named name.now (map (λ w. w.now) words.entry.now)) }
+    ensures value { IfOk result (λ found. found ≡ command_named name.now (texts words.entry.now)) }
     ensures ranged { IfOk result (λ found. IfSome found IsCommandInRange) }
     ensures named { OnErr result (has command_names name.now ≡ true) }
     ensures memory { IfErr result (λ e. kind_of e ≡ ErrorKind.OutOfMemory) }
@@ -117,9 +115,9 @@ fn command_named<'a>(
 // The command that words are, if they are a line.
 #[tactic(auto, unfolding(crate::specs::Lines::command_in))]
 fn parse<'a>(alloc: Global, words: &'a [&'a str]) -> Result<Option<Command>, Error>
-    ensures value { IfOk result (λ found. found ≡ command_in (map (λ w. w.now) words.entry.now)) }
+    ensures value { IfOk result (λ found. found ≡ command_in (texts words.entry.now)) }
     ensures ranged { IfOk result (λ found. IfSome found IsCommandInRange) }
-    ensures named { OnErr result (begins_with_name (map (λ w. w.now) words.entry.now) ≡ true) }
+    ensures named { OnErr result (begins_with_name (texts words.entry.now) ≡ true) }
     ensures memory { IfErr result (λ e. kind_of e ≡ ErrorKind.OutOfMemory) }
 {
     match words.split_first() {
@@ -131,10 +129,10 @@ fn parse<'a>(alloc: Global, words: &'a [&'a str]) -> Result<Option<Command>, Err
 /// The command that the words after the program's name are, if they are a line. The error is want
 /// of memory, which comes only behind the name of a command.
 pub fn command_of<'a>(alloc: Global, words: &'a [&'a str]) -> Result<Option<Command>, NoMemory>
-    ensures line { IfOk result (λ found. (c : Command) → (found ≡ Some c) ↔ IsLine (map (λ w. w.now) words.entry.now) c) }
-    ensures value { IfOk result (λ found. found ≡ command_in (map (λ w. w.now) words.entry.now)) }
+    ensures line { IfOk result (IsCommandOf (texts words.entry.now)) }
+    ensures value { IfOk result (λ found. found ≡ command_in (texts words.entry.now)) }
     ensures ranged { IfOk result (λ found. IfSome found IsCommandInRange) }
-    ensures memory { OnErr result (begins_with_name (map (λ w. w.now) words.entry.now) ≡ true) }
+    ensures memory { OnErr result (begins_with_name (texts words.entry.now) ≡ true) }
 {
     parse(alloc, words).map_err(|_| NoMemory)
 }
