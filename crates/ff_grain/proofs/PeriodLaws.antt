@@ -14,8 +14,8 @@ highest-above freq = omega arith
 
 pub lowest-positive : (freq : ℕ) → 1000000 ≤ freq → freq ≤ 16000000000 → 0 < lowest_period freq
 unfolding lowest_period nominal_period
-lowest-positive freq low high = let some : 1 ≤ 9223372036854775808 / freq = le-div 1 _ freq (omega arith) (omega arith) in omega arith
+lowest-positive freq low high = let some : 1 ≤ 2 ^ 63 / freq = le-div 1 _ freq (omega arith) (omega arith) in omega arith
 
 pub highest-bounded : (freq : ℕ) → 1000000 ≤ freq → highest_period freq < 2 ^ 45
 unfolding highest_period nominal_period
-highest-bounded freq low = let most : 9223372036854775808 / freq ≤ 9223372036855 = div-le_of_le-mul freq (omega arith) in omega arith
+highest-bounded freq low = let most : 2 ^ 63 / freq ≤ 9223372036855 = div-le_of_le-mul freq (omega arith) in omega arith

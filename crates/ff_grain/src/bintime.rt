@@ -1,13 +1,18 @@
 // Seconds, and grains below one second.
-ghost use Rattle.std.specs.Prelude.{◌≡◌, ◌*◌, ◌^◌, ◌<◌, pos, ◌+ℤ◌, ◌-ℤ◌, FitsSigned};
+ghost use Rattle.std.specs.Prelude.{◌≡◌, refl, ◌*◌, ◌^◌, ◌<◌, pos, ◌+ℤ◌, ◌-ℤ◌, FitsSigned};
 ghost use Rattle.std.specs.Int.{w128};
+ghost use Rattle.std.specs.Cmp.{partial_equiv_from_equiv, int_eq_equiv, int_cmp_total, signed_po, on_equiv, on_total, on_po};
+ghost use Rattle.std.specs.Ordering.{on, int_cmp, int_eq, as_partial_cmp};
 ghost use Rattle.ff_grain.specs.Grains.{number_of, grains_of, IsTime, of_grains, of_nanos, nanos_floor, nanos_ceil};
+
+use std::cmp::Ordering;
 
 /// A time, or a distance of two times: whole seconds, and `frac` grains of 2^-64 s above them.
 ///
 /// Each `i128` is the number of grains of exactly one `Bintime`: `sec * 2^64 + frac`. So -1 grain
-/// has the second -1 and the greatest fraction. After FreeBSD's `struct bintime`.
-#[derive(Clone, Copy, Debug, PartialEq, Eq)]
+/// has the second -1 and the greatest fraction. Times compare as their numbers of grains do. After
+/// FreeBSD's `struct bintime`.
+#[derive(Clone, Copy, Debug)]
 pub struct Bintime {
     pub sec: i64,
     pub frac: u64,
@@ -70,6 +75,44 @@ impl Bintime {
     {
         let part = (u128::from(self.frac) * NANOS).div_ceil(SECOND as u128);
         i128::from(self.sec) * NANOS as i128 + part as i128
+    }
+}
+
+impl PartialEq for Bintime {
+    ghost eq = { on number_of int_eq };
+
+    ghost laws = { partial_equiv_from_equiv (on_equiv number_of int_eq_equiv) };
+
+    fn eq(&self, other: &Bintime) -> bool {
+        self.grains() == other.grains()
+    }
+}
+
+impl Eq for Bintime {
+    ghost laws = { on_equiv number_of int_eq_equiv };
+}
+
+impl Ord for Bintime {
+    ghost cmp = { on number_of int_cmp };
+
+    ghost total = { on_total number_of int_cmp_total };
+
+    ghost matches_partial_cmp = { λ s t. refl };
+
+    ghost matches_eq = { λ s t. refl };
+
+    fn cmp(&self, other: &Bintime) -> Ordering {
+        self.grains().cmp(&other.grains())
+    }
+}
+
+impl PartialOrd for Bintime {
+    ghost partial_cmp = { as_partial_cmp (on number_of int_cmp) };
+
+    ghost laws = { on_po number_of signed_po };
+
+    fn partial_cmp(&self, other: &Bintime) -> Option<Ordering> {
+        Some(self.cmp(other))
     }
 }
 

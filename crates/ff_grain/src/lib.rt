@@ -2,11 +2,13 @@
 #![tactic(auto)]
 
 mod bintime;
+mod laws;
 mod memory;
 mod periods;
 mod scale;
 
 pub use bintime::{Bintime, convert_delta, from_nanos, grains_of};
+pub use laws::times_compare_as_numbers;
 pub use memory::NoMemory;
 pub use periods::{highest_period, lowest_period, nominal_period};
 pub use scale::{scale_ceil, trip_scale};
