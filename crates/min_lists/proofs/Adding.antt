@@ -4,8 +4,8 @@ use Rattle.std.proofs.lemmas.Bool.{cases_eq}
 use Rattle.min_lists.specs.declared.nodes.Node.{Node}
 use Rattle.min_lists.specs.declared.windows.Window.{Window}
 use Rattle.min_lists.specs.declared.which.Which.{Which}
-use Rattle.min_lists.specs.Lists.{place, Span, IsIn, window, credit_in}
-use Rattle.min_lists.specs.Links.{AreLists, window_at, kept_in}
+use Rattle.min_lists.specs.Lists.{Span, IsIn, window, credit_in}
+use Rattle.min_lists.specs.Links.{place, AreLists, window_at, kept_in}
 use Rattle.min_lists.specs.Nodes.{trip_at, link_at}
 use Rattle.min_lists.proofs.Frames.{list_same}
 use Rattle.min_lists.proofs.Views.{window_kept}

@@ -6,8 +6,8 @@ use Rattle.min_lists.specs.declared.nodes.Node.{Node}
 use Rattle.min_lists.specs.declared.windows.Window.{Window}
 use Rattle.min_lists.specs.declared.which.Which.{Which}
 use Rattle.min_lists.specs.declared.which.Which.TheVariants.{Base, Recent, WideOld, WideNew, NearOld, NearNew}
-use Rattle.min_lists.specs.Lists.{place, Kept, lows, credit_in, credit}
-use Rattle.min_lists.specs.Links.{AreLists, window_at, trips_between, kept_in}
+use Rattle.min_lists.specs.Lists.{Kept, lows, credit_in, credit}
+use Rattle.min_lists.specs.Links.{place, AreLists, window_at, trips_between, kept_in}
 use Rattle.min_lists.specs.Nodes.{trip_at}
 use Rattle.min_lists.proofs.Places.{window_set, window_set_other}
 use Rattle.min_lists.proofs.Views.{same_between, drop_between, credit_in_kept}

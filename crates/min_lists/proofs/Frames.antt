@@ -2,12 +2,12 @@
 use Rattle.std.proofs.Common.{◌≡◌, ℕ, ◌+◌, ◌<◌, ◌≤◌, List, arith, ap, subst, sym}
 use Rattle.std.proofs.Math.Path.{fun_ext}
 use Rattle.min_lists.specs.declared.nodes.Node.{Node}
-use Rattle.min_lists.specs.Lists.{IsFirstLeast}
+use Rattle.min_lists.specs.Lists.{IsFirstMinimum}
 use Rattle.min_lists.specs.Links.{IsLinked}
 use Rattle.min_lists.specs.Nodes.{trip_at, link_at, before_at, after_at}
 
 module _ (trip trip' : ℕ → ℕ) where
-  pub first_least_same : (from to i : ℕ) → ((j : ℕ) → from ≤ j → j < to → trip' j ≡ trip j) → IsFirstLeast trip from to i → IsFirstLeast trip' from to i
+  pub first_least_same : (from to i : ℕ) → ((j : ℕ) → from ≤ j → j < to → trip' j ≡ trip j) → IsFirstMinimum trip from to i → IsFirstMinimum trip' from to i
   first_least_same from to i same f =
       let here : trip' i ≡ trip i = same i f.low f.high in
       record {

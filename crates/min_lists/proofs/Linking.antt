@@ -2,11 +2,11 @@
 use Rattle.std.proofs.Common.{◌≡◌, ℕ, ◌+◌, ◌<◌, ◌≤◌, ◌≢◌, arith, subst, sym, ap, ◌∙◌, inl, inr}
 use Rattle.std.proofs.lemmas.Bool.{cases_eq, cases_lt}
 use Rattle.std.proofs.lemmas.Grind.{common_steps}
-use Rattle.min_lists.specs.Lists.{IsFirstLeast}
+use Rattle.min_lists.specs.Lists.{IsFirstMinimum}
 use Rattle.min_lists.specs.Links.{IsBefore, IsLinked}
 
 -- the first of least round trip stays so where one comes that is no less than some b of them
-stays_least : (trip : ℕ → ℕ) (start to i b : ℕ) → IsFirstLeast trip start to i → start ≤ b → b < to → trip b ≤ trip to → IsFirstLeast trip start (to + 1) i
+stays_least : (trip : ℕ → ℕ) (start to i b : ℕ) → IsFirstMinimum trip start to i → start ≤ b → b < to → trip b ≤ trip to → IsFirstMinimum trip start (to + 1) i
 stays_least trip start to i b f l h le = record {
   low = f.low;
   high = omega (arith, f.high);
@@ -40,6 +40,6 @@ linked_behind trip before after before' after' from to head b old l last before_
               | inr f ↦ absurd (omega (arith, last.above i m (omega arith) (omega arith), low to (omega arith) (omega arith)))
             ] in
             let was = old.afters i m (omega arith) (λ j n k. low j n (omega arith)) in
-            subst (IsFirstLeast trip (i + 1) (to + 1)) (sym (afters i m (omega arith) other)) (stays_least trip (i + 1) to (after i) b was (omega arith) below le)
+            subst (IsFirstMinimum trip (i + 1) (to + 1)) (sym (afters i m (omega arith) other)) (stays_least trip (i + 1) to (after i) b was (omega arith) below le)
       ];
     }

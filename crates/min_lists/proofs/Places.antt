@@ -1,34 +1,44 @@
 -- A window among the six that is changed.
-use Rattle.std.proofs.Common.{◌≡◌, ℕ, zero, suc, ◌+◌, ◌<◌, ◌≤◌, ◌≢◌, List, length, set, get_or-set_same, get_or-set_other, refl, subst, sym, ◌∙◌, ap, arith, inl, inr}
-use Rattle.std.proofs.lemmas.Bool.{cases_eq, cases_lt}
-use Rattle.min_lists.specs.Lists.{place}
+use Rattle.std.proofs.Common.{◌≡◌, true, false, ℕ, ◌+◌, ◌<◌, ◌≤◌, ◌≢◌, List, length, set, get_or-set_same, get_or-set_other, refl, subst, sym, arith, inl, inr}
+use Rattle.std.proofs.lemmas.Bool.{cases_eq, cases_lt, both_ways}
+use Rattle.min_lists.specs.Lists.{is_same}
 use Rattle.min_lists.specs.declared.nodes.Node.{Node}
 use Rattle.min_lists.specs.declared.windows.Window.{Window}
 use Rattle.min_lists.specs.declared.which.Which.{Which}
 use Rattle.min_lists.specs.declared.which.Which.TheVariants.{Base, Recent, WideOld, WideNew, NearOld, NearNew}
-use Rattle.min_lists.specs.Links.{IsList, AreLists, Enters, window_at, no_window}
+use Rattle.min_lists.specs.Links.{place, IsList, AreLists, Enters, window_at, no_window}
 use Rattle.min_lists.proofs.Frames.{list_same}
 
+-- what is said to be the same window is the same
+pub is_same-is : (one other : Which) → is_same one other ≡ true → one ≡ other
+is_same-is Base Base e = refl
+is_same-is Recent Recent e = refl
+is_same-is WideOld WideOld e = refl
+is_same-is WideNew WideNew e = refl
+is_same-is NearOld NearOld e = refl
+is_same-is NearNew NearNew e = refl
+is_same-is _ _ e = absurd (cc)
+
+is_same-self : (which : Which) → is_same which which ≡ true
+is_same-self Base = refl
+is_same-self Recent = refl
+is_same-self WideOld = refl
+is_same-self WideNew = refl
+is_same-self NearOld = refl
+is_same-self NearNew = refl
+
+pub is_same-not : (one other : Which) → is_same one other ≡ false → other ≢ one
+is_same-not one other e same = both_ways _ e (subst (λ w. is_same one w ≡ true) (sym same) (is_same-self one))
+
 -- two windows have two places
-named : ℕ → Which
-named zero = Base
-named (suc zero) = Recent
-named (suc (suc zero)) = WideOld
-named (suc (suc (suc zero))) = WideNew
-named (suc (suc (suc (suc zero)))) = NearOld
-named (suc (suc (suc (suc (suc _))))) = NearNew
-
-named_place : (which : Which) → named (place which) ≡ which
-unfolding named
-named_place Base = refl
-named_place Recent = refl
-named_place WideOld = refl
-named_place WideNew = refl
-named_place NearOld = refl
-named_place NearNew = refl
-
-pub place_same : (which other : Which) → place other ≡ place which → other ≡ which
-place_same which other e = sym (named_place other) ∙ ap named e ∙ named_place which
+pub place_same : (one other : Which) → place one ≡ place other → one ≡ other
+place_same Base Base e = refl
+place_same Recent Recent e = refl
+place_same WideOld WideOld e = refl
+place_same WideNew WideNew e = refl
+place_same NearOld NearOld e = refl
+place_same NearNew NearNew e = refl
+place_same _ _ e = absurd (omega arith)
 
 module _ (ws : List Window) (p : ℕ) (w : Window) (room : p < length ws) where
   pub window_set : window_at (set ws p w) p ≡ w

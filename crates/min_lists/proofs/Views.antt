@@ -9,8 +9,8 @@ use Rattle.min_lists.specs.declared.nodes.Node.{Node}
 use Rattle.min_lists.specs.declared.windows.Window.{Window}
 use Rattle.min_lists.specs.declared.which.Which.{Which}
 use Rattle.min_lists.specs.declared.which.Which.TheVariants.{Base, Recent, WideOld, WideNew, NearOld, NearNew}
-use Rattle.min_lists.specs.Lists.{place, Span, Kept, StandsFor, IsFirstLeast, window, with_trip, last_trips, trips_in, lows, credit_in}
-use Rattle.min_lists.specs.Links.{AreLists, window_at, span, trips_between, kept_in}
+use Rattle.min_lists.specs.Lists.{Span, Kept, StandsFor, IsFirstMinimum, window, with_trip, last_trips, trips_in, lows, credit_in}
+use Rattle.min_lists.specs.Links.{place, AreLists, window_at, span, trips_between, kept_in}
 use Rattle.min_lists.specs.Nodes.{trip_at}
 use Rattle.min_lists.proofs.Frames.{first_least_same}
 
@@ -109,11 +109,11 @@ stands_with k all rtt stands = record {
 -- the head of a list is the first of least round trip in its window, among all
 pub head_is_least : (ns : List Node) (count : ℕ) (ws : List Window) (all : List ℕ) (which : Which) → AreLists ns count ws → StandsFor (kept_in ns count ws) all
     → (window_at ws (place which)).from < (window_at ws (place which)).to
-    → IsFirstLeast (slice_index all) (window (kept_in ns count ws) which).from (window (kept_in ns count ws) which).to (window_at ws (place which)).head
+    → IsFirstMinimum (slice_index all) (window (kept_in ns count ws) which).from (window (kept_in ns count ws) which).to (window_at ws (place which)).head
 head_is_least ns count ws all which lists stands l =
     let w = window_at ws (place which) in
     let each = lists.each which in
-    subst (λ (s : Span). IsFirstLeast (slice_index all) s.from s.to w.head) (sym (window_kept ns count ws which))
+    subst (λ (s : Span). IsFirstMinimum (slice_index all) s.from s.to w.head) (sym (window_kept ns count ws which))
     (first_least_same (trip_at ns) (slice_index all) w.from w.to w.head
     (λ j m n. trip_of_all ns count ws all j stands (omega (arith, each.kept l)) (omega (arith, each.entered)))
     (each.linked.least l))

@@ -4,8 +4,18 @@ use Rattle.std.specs.List.{range_with_len}
 use Rattle.min_lists.specs.declared.nodes.Node.{Node}
 use Rattle.min_lists.specs.declared.windows.Window.{Window}
 use Rattle.min_lists.specs.declared.which.Which.{Which}
-use Rattle.min_lists.specs.Lists.{place, Span, Kept, IsFirstLeast, lows}
+use Rattle.min_lists.specs.declared.which.Which.TheVariants.{Base, Recent, WideOld, WideNew, NearOld, NearNew}
+use Rattle.min_lists.specs.Lists.{Span, Kept, IsFirstMinimum, lows}
 use Rattle.min_lists.specs.Nodes.{trip_at, link_at, before_at, after_at}
+
+-- a window's place among the six
+abbrev pub place : Which → ℕ
+place Base = 0
+place Recent = 1
+place WideOld = 2
+place WideNew = 3
+place NearOld = 4
+place NearNew = 5
 
 -- from index b on, as far as the window goes, the round trips before i are above that of i, and the
 -- one before b is not
@@ -18,13 +28,14 @@ pub record IsBefore (trip : ℕ → ℕ) (from i b : ℕ) : Type 0 where
 abbrev pub IsLow : (ℕ → ℕ) → ℕ → ℕ → Type 0
 IsLow trip to i = (j : ℕ) → i < j → j < to → trip i ≤ trip j
 
--- the list of a window: its head is the first of least round trip, and behind each index of the list
--- stands the first of least round trip of the later ones
+-- the list of a window: its head is the first of least round trip, and behind each index of the
+-- list stands the first of least round trip of the later ones
 pub record IsLinked (trip before after : ℕ → ℕ) (from to head : ℕ) : Type 0 where
   pub ends : from ≤ to
-  pub least : from < to → IsFirstLeast trip from to head
+  pub least : from < to → IsFirstMinimum trip from to head
   pub befores : (i : ℕ) → from ≤ i → i < to → IsBefore trip from i (before i)
-  pub afters : (i : ℕ) → from ≤ i → i + 1 < to → IsLow trip to i → IsFirstLeast trip (i + 1) to (after i)
+  pub afters : (i : ℕ) → from ≤ i → i + 1 < to → IsLow trip to i
+      → IsFirstMinimum trip (i + 1) to (after i)
 
 -- the nodes are linked at this place as the list of this window
 abbrev pub AreLinked : List Node → ℕ → Window → Type 0

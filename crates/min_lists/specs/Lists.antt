@@ -1,17 +1,8 @@
 -- Six sliding windows over round trips: what is kept of them, and what the least of a window is.
-use Rattle.std.specs.Prelude.{◌≡◌, ℕ, ◌+◌, ◌-◌, ◌<◌, ◌≤◌, nat_le, if◌then◌else◌, List, [], ◌∷◌, ◌++◌, length, drop, slice_range}
+use Rattle.std.specs.Prelude.{◌≡◌, ℕ, ◌+◌, ◌-◌, ◌<◌, ◌≤◌, nat_le, Bool, true, false, if◌then◌else◌, List, [], ◌∷◌, ◌++◌, length, drop, slice_index, slice_range}
 use Rattle.std.specs.List.{list_all}
 use Rattle.min_lists.specs.declared.which.Which.{Which}
 use Rattle.min_lists.specs.declared.which.Which.TheVariants.{Base, Recent, WideOld, WideNew, NearOld, NearNew}
-
--- a window's place among the six
-abbrev pub place : Which → ℕ
-place Base = 0
-place Recent = 1
-place WideOld = 2
-place WideNew = 3
-place NearOld = 4
-place NearNew = 5
 
 -- the indices from `from` to below `to`
 pub record Span : Type 0 where
@@ -20,6 +11,16 @@ pub record Span : Type 0 where
 
 abbrev pub IsIn : Span → ℕ → Type 0
 IsIn s i = (s.from ≤ i) × (i < s.to)
+
+-- these two are the same window
+abbrev pub is_same : Which → Which → Bool
+is_same Base Base = true
+is_same Recent Recent = true
+is_same WideOld WideOld = true
+is_same WideNew WideNew = true
+is_same NearOld NearOld = true
+is_same NearNew NearNew = true
+is_same _ _ = false
 
 -- the last round trips, up to 1,024, how many were added, and the six windows
 pub record Kept : Type 0 where
@@ -59,17 +60,30 @@ pub record StandsFor (k : Kept) (all : List ℕ) : Type 0 where
 
 -- i is the first index of least round trip from `from` to below `to`: no round trip there is less,
 -- and each one before it is more
-pub record IsFirstLeast (trip : ℕ → ℕ) (from to i : ℕ) : Type 0 where
+pub record IsFirstMinimum (trip : ℕ → ℕ) (from to i : ℕ) : Type 0 where
   pub low : from ≤ i
   pub high : i < to
   pub least : (j : ℕ) → from ≤ j → j < to → trip i ≤ trip j
   pub first : (j : ℕ) → from ≤ j → j < i → trip i < trip j
 
+-- the same by the round trips of a whole list, in a window
+abbrev pub IsMinimumOf : List ℕ → Span → ℕ → Type 0
+IsMinimumOf all s = IsFirstMinimum (slice_index all) s.from s.to
+
 -- nothing was added, and nothing entered
 abbrev pub nothing : Kept
 nothing =
     let none : Span = record { from = 0; to = 0 } in
-    record { trips = []; count = 0; base = none; recent = none; wide_old = none; wide_new = none; near_old = none; near_new = none }
+    record {
+      trips = [];
+      count = 0;
+      base = none;
+      recent = none;
+      wide_old = none;
+      wide_new = none;
+      near_old = none;
+      near_new = none;
+    }
 
 -- with one more round trip, in no window
 abbrev pub with_trip : Kept → ℕ → Kept
@@ -77,7 +91,9 @@ with_trip k rtt = record k { trips = last_trips (k.trips ++ rtt ∷ []); count =
 
 -- with the next index in this window
 abbrev pub with_next : Kept → Which → Kept
-with_next k which = let s = window k which in with_window k which (record { from = s.from; to = s.to + 1 })
+with_next k which =
+    let s = window k which in
+    with_window k which (record { from = s.from; to = s.to + 1 })
 
 -- with nothing before this index in this window
 abbrev pub with_start : Kept → Which → ℕ → Kept
@@ -98,4 +114,6 @@ credit_in k which = lows (trips_in k (window k which))
 
 -- the credit of all six
 unfoldable pub credit : Kept → ℕ
-credit k = credit_in k Base + credit_in k Recent + credit_in k WideOld + credit_in k WideNew + credit_in k NearOld + credit_in k NearNew
+credit k =
+    credit_in k Base + credit_in k Recent + credit_in k WideOld + credit_in k WideNew
+    + credit_in k NearOld + credit_in k NearNew

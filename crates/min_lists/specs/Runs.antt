@@ -1,7 +1,7 @@
 -- Whole runs of calls, and the steps that they take.
-use Rattle.std.specs.Prelude.{◌≡◌, ◌≢◌, ℕ, ◌+◌, ◌-◌, ◌≤◌, ◌==◌, Bool, false, if◌then◌else◌, List, [], ◌∷◌}
+use Rattle.std.specs.Prelude.{◌≡◌, ◌≢◌, ℕ, ◌+◌, ◌-◌, ◌≤◌, Bool, false, if◌then◌else◌, List, [], ◌∷◌}
 use Rattle.min_lists.specs.declared.which.Which.{Which}
-use Rattle.min_lists.specs.Lists.{Kept, place, credit_in}
+use Rattle.min_lists.specs.Lists.{Kept, is_same, credit_in}
 
 -- a call; one that lets an index enter a window comes with the ledger before and after it
 pub data Call : Type 0 where
@@ -26,10 +26,10 @@ Run old (call ∷ calls) new = (next : Kept) × Does old call next × Run next c
 
 -- a call lets an index enter this window
 abbrev pub enters : Which → Call → Bool
-enters which (Enter other before after) = place other == place which
+enters which (Enter other before after) = is_same other which
 enters which _ = false
 
 -- by how much a call for this window raised the ledger
 abbrev pub raised : Which → Call → ℕ
-raised which (Enter other before after) = if place other == place which then after - before else 0
+raised which (Enter other before after) = if is_same other which then after - before else 0
 raised which _ = 0

@@ -1,7 +1,8 @@
 //! The least round trips of six sliding windows, by lists that are linked by index.
 //!
-//! A window's list has those of its round trips that have no lesser one behind them. So its head is the
-//! first of least round trip, and one more round trip ends the list behind the last that isn't above it.
+//! A window's list has those of its round trips that have no lesser one behind them. So its head is
+//! the first of least round trip, and one more round trip ends the list behind the last that isn't
+//! above it.
 #![tactic(auto)]
 
 mod laws;

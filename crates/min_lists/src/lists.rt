@@ -1,6 +1,6 @@
 // Six windows over round trips.
-ghost use Rattle.std.specs.Prelude.{◌≡◌, ℕ, ◌+◌, ◌<◌, ◌≤◌, ◌^◌, List, [], ◌∷◌, ◌++◌, slice_index, ◌↔◌, IsNone, IfOk, IfSome};
-ghost use Rattle.min_lists.specs.Lists.{StandsFor, IsFirstLeast, IsIn, nothing, window, with_trip, with_next, with_start, credit};
+ghost use Rattle.std.specs.Prelude.{◌≡◌, ℕ, ◌+◌, ◌<◌, ◌≤◌, ◌^◌, List, [], ◌∷◌, ◌++◌, ◌↔◌, IsNone, IfOk, IfSome};
+ghost use Rattle.min_lists.specs.Lists.{StandsFor, IsMinimumOf, IsIn, nothing, window, with_trip, with_next, with_start, credit};
 ghost use Rattle.min_lists.specs.Runs.{Does, Add, Enter, Cut};
 
 use crate::nodes::Nodes;
@@ -58,7 +58,8 @@ impl Lists {
         requires gone { (which : Which) (i : ℕ) → i + 1024 ≡ self.old.count →
             ¬ IsIn (window self.old which) i }
         ensures kept { self.new ≡ with_trip self.old rtt }
-        ensures stands { (all : List ℕ) → StandsFor self.old all → StandsFor self.new (all ++ rtt ∷ []) }
+        ensures stands { (all : List ℕ) → StandsFor self.old all →
+            StandsFor self.new (all ++ rtt ∷ []) }
         ensures does { Does self.old (Add rtt) self.new }
         ensures credit { credit self.new ≡ credit self.old }
     {
@@ -68,8 +69,8 @@ impl Lists {
 
     /// Lets the next index enter a window at its right end.
     ///
-    /// A step is one comparison of two round trips. The steps and the credit together rise by two at
-    /// most, so in the long run an index takes two steps.
+    /// A step is one comparison of two round trips. The steps and the credit together rise by two
+    /// at most, so in the long run an index takes two steps.
     pub fn enter<L: Ledger>(&mut self, which: Which, steps: &mut Steps<L>)
         requires added { (window self.old which).to < self.old.count }
         requires kept { self.old.count ≤ (window self.old which).to + 1024 }
@@ -99,7 +100,7 @@ impl Lists {
     pub fn least(&self, which: Which) -> Option<u64>
         ensures none { IsNone result ↔ ((window self.now which).from ≡ (window self.now which).to) }
         ensures least { (all : List ℕ) → StandsFor self.now all →
-            IfSome result (IsFirstLeast (slice_index all) (window self.now which).from (window self.now which).to) }
+            IfSome result (IsMinimumOf all (window self.now which)) }
     {
         self.windows[which.place()].least()
     }

@@ -12,8 +12,8 @@ pub const ROOM: u64 = 1024;
 /// How a node is linked in the list of one window.
 #[derive(Clone, Copy)]
 pub struct Link {
-    /// One more than the index of the node before it: the latest earlier round trip that isn't above it.
-    /// At most the window's left end where there is none.
+    /// One more than the index of the node before it: the latest earlier round trip that isn't above
+    /// it. At most the window's left end where there is none.
     pub before: u64,
     /// The index of the node after it, where there is one.
     pub after: u64,
@@ -77,7 +77,8 @@ impl Nodes {
     /// Gives the node of this index its round trip.
     pub fn set_trip(&mut self, index: u64, trip: Trip)
         ensures here { trip_at self.new index ≡ trip }
-        ensures others { (i : ℕ) → i % 1024 ≢ index % 1024 → trip_at self.new i ≡ trip_at self.old i }
+        ensures others { (i : ℕ) → i % 1024 ≢ index % 1024 →
+            trip_at self.new i ≡ trip_at self.old i }
         ensures links { (p i : ℕ) → link_at self.new p i ≡ link_at self.old p i }
     {
         let node = &mut self.slots[(index % ROOM) as usize];

@@ -34,7 +34,7 @@ impl Trip {
         ensures value { IsTrue result ↔ (self ≤ other) }
         ensures step { steps.new ≡ steps.old + 1 }
     {
-        steps.tick();
+        steps.count_one();
         self.counts <= other.counts
     }
 }

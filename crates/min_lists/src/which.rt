@@ -1,6 +1,6 @@
 // The six windows by name.
 ghost use Rattle.std.specs.Prelude.{◌≡◌, ◌<◌};
-ghost use Rattle.min_lists.specs.Lists.{place};
+ghost use Rattle.min_lists.specs.Links.{place};
 
 /// One of the six sliding windows over round trips.
 #[derive(Clone, Copy, Debug, PartialEq, Eq)]

@@ -43,8 +43,8 @@ impl Window {
         }
     }
 
-    // One more than the index of the latest round trip in the window that isn't above the next one. At
-    // most the left end where there is none.
+    // One more than the index of the latest round trip in the window that isn't above the next one.
+    // At most the left end where there is none.
     fn before_next<L: Ledger>(self, nodes: &Nodes, place: usize, steps: &mut Steps<L>) -> u64
         requires place { place < 6 }
         requires linked { AreLinked nodes.now place self }
@@ -121,7 +121,8 @@ impl Window {
         requires within { from ≤ self.to }
         ensures from { result.from ≡ from }
         ensures to { result.to ≡ self.to }
-        ensures list { (count : ℕ) → IsList nodes.now count place self → IsList nodes.now count place result }
+        ensures list { (count : ℕ) → IsList nodes.now count place self →
+            IsList nodes.now count place result }
     {
         let mut head = self.head;
         if from < self.to {

@@ -1,5 +1,5 @@
 -- A window with one more stamp.
-use Rattle.std.proofs.Common.{◌≡◌, ℕ, ◌+◌, ◌-◌, ◌<◌, ◌≤◌, List, [], ◌∷◌, ◌++◌, length, drop, map, max, min, get_or, slice_range, Some, IfSome, Ok, inl, inr, refl, sym, ap, ap₂, ◌∙◌, subst, arith, length-drop, suc}
+use Rattle.std.proofs.Common.{◌≡◌, ℕ, ◌+◌, ◌-◌, ◌<◌, ◌≤◌, List, [], ◌∷◌, ◌++◌, length, drop, take, map, max, min, get_or, slice_range, Some, IfSome, Ok, inl, inr, refl, sym, ap, ap₂, ◌∙◌, subst, arith, length-drop, suc}
 use Rattle.std.proofs.lemmas.Grind.{common_steps}
 use Rattle.std.proofs.lemmas.List.{drop-drop, drop-map, take_all, take_rest, drop-append-le, length-map, length_push, map_push, get_or_push, get_or-drop}
 use Rattle.std.proofs.lemmas.Option.{slice_get_cases, slice_get-get_or}
@@ -12,10 +12,11 @@ use Rattle.stamp_text.specs.Accepted.{accept_of, IsInRange, last_of, trip}
 use Rattle.stamp_text.specs.declared.lines.Stamp.{Stamp}
 use Rattle.stamp_text.proofs.AcceptedLaws.{sound-by, follows-by, accepted-push, accepted-drop}
 use Rattle.rtt_window.specs.Bases.{least_of, least_trip, judged, base_from, start_before, base_at}
-use Rattle.rtt_window.specs.Spans.{span_of, listed}
-use Rattle.rtt_window.specs.Windows.{Kept, StandsFor, kept_with, least_kept, stamps_in, Judges, Holds}
+use Rattle.rtt_window.specs.Spans.{listed}
+use Rattle.rtt_window.specs.Windows.{Kept, StandsFor, kept_with, dropped, span_in, stamps_in, least_in, judged_in, Holds}
 use Rattle.rtt_window.specs.declared.bases.Base.{Base}
-use Rattle.rtt_window.proofs.Prefixes.{start_before-le, start_before-append}
+use Rattle.rtt_window.proofs.Prefixes.{start_before-append}
+use Rattle.rtt_window.proofs.Listed.{span-kept}
 
 -- the last of the kept ones and one more are the last of all
 pub keep_last-push : (xs : List Stamp) (s : Stamp) → keep_last 1024 (keep_last 1024 xs ++ s ∷ []) ≡ keep_last 1024 (xs ++ s ∷ [])
@@ -27,11 +28,6 @@ range-kept all from i e kept order =
     let d : ℕ = length all - 1024 in
     let place : d + (from - (i + 1 - length (drop d all))) ≡ from = omega (arith, length-drop d all) in
     drop-drop (from - (i + 1 - length (drop d all))) d all ∙ ap (λ n. drop n all) place ∙ sym (take_all (i + 1 - from) (drop from all) (omega (arith, length-drop from all)))
-
--- the least round trip from a kept stamp on
-pub least_trip-kept : (all : List Stamp) (from i : ℕ) → length all ≡ i + 1 → i - 1023 ≤ from → from ≤ i → least_of (map trip (drop (from - (i + 1 - length (keep_last 1024 all))) (keep_last 1024 all))) ≡ least_trip all from i
-unfolding least_trip
-least_trip-kept all from i e kept order = ap (λ xs. least_of (map trip xs)) (range-kept all from i e kept order)
 
 pub last-push : (xs : List Stamp) (s : Stamp) → last_of (keep_last 1024 (xs ++ s ∷ [])) ≡ Some s
 last-push xs s =
@@ -80,51 +76,41 @@ holds-push xs ls ls' count start freq s holds timed e slid =
 stamps-push : (k : Kept) (freq : ℕ) (all : List Stamp) (s : Stamp) → StandsFor k freq all → (kept_with k s).stamps ≡ keep_last 1024 (all ++ s ∷ [])
 stamps-push k freq all s was = ap (λ (xs : List Stamp). keep_last 1024 (xs ++ s ∷ [])) was.stamps ∙ keep_last-push all s
 
--- the least of what is kept with one more is the least of all
-least-push : (k : Kept) (freq : ℕ) (all : List Stamp) (s : Stamp) (from : ℕ) → StandsFor k freq all → length all - 1023 ≤ from → from ≤ length all → least_kept (kept_with k s) from ≡ least_trip (all ++ s ∷ []) from (length all)
-least-push k freq all s from was kept here =
-    ap₂ (λ n (xs : List Stamp). least_of (map trip (drop (from - (n + 1 - length xs)) xs))) was.count (stamps-push k freq all s was)
-    ∙ least_trip-kept (all ++ s ∷ []) from (length all) (length_push all s) kept here
-
--- a window up to the newest stamp is what is kept from its start on
-least-since : (k : Kept) (which : Which) (from : ℕ) → length k.stamps ≡ min 1024 k.count → span_of k.count k.start which ≡ record { from = from; to = k.count } → least_of (map trip (stamps_in k which)) ≡ least_kept k from
-least-since k which from few is =
-    let gone : ℕ = k.count - length k.stamps in
-    let all : k.count - gone ≡ length k.stamps = omega arith in
-    ap (λ (w : Span). least_of (map trip (slice_range k.stamps (w.from - gone) (w.to - gone)))) is
-    ∙ ap (λ to. least_of (map trip (slice_range k.stamps (from - gone) to))) all
-    ∙ ap (λ xs. least_of (map trip xs)) (take_rest k.stamps (from - gone))
-
--- what is said of a stamp after it is kept
-pub judges-after : (k k' : Kept) (s : Stamp) (count least recent : ℕ) (answer : Base) → k' ≡ kept_with k s → count ≡ k.count → length k'.stamps ≡ min 1024 k'.count
-    → least ≡ least_of (map trip (stamps_in k' which.Base)) → recent ≡ least_of (map trip (stamps_in k' which.Recent)) → answer ≡ judged k'.freq k'.start count least recent → Judges k s answer
-judges-after k k' s count least recent answer after counted few is_least is_recent is =
-    let since : k.count + 1 - 1024 ≡ k.count - 1023 = omega arith in
-    let late : k.count + 1 - 32 ≡ k.count - 31 = omega arith in
-    record {
-      least = least;
-      recent = recent;
-      since = is_least ∙ least-since k' which.Base (max k'.start (k'.count - 1024)) few refl ∙ ap (λ (k : Kept). least_kept k (max k.start (k.count - 1024))) after ∙ ap (λ n. least_kept (kept_with k s) (max k.start n)) since;
-      late = is_recent ∙ least-since k' which.Recent (k'.count - 32) few refl ∙ ap (λ (k : Kept). least_kept k (k.count - 32)) after ∙ ap (least_kept (kept_with k s)) late;
-      by = is ∙ ap₂ (λ (k : Kept) n. judged k.freq k.start n least recent) after counted;
-    }
+-- the kept stamps in a window are the stamps of all in it
+stamps_in-all : (k : Kept) (all : List Stamp) (which : Which) → k.stamps ≡ keep_last 1024 all → k.count ≡ length all → stamps_in k which ≡ slice_range all (span_in k which).from (span_in k which).to
+stamps_in-all k all which kept counted =
+    let d : ℕ = length all - 1024 in
+    let w : Span = span_in k which in
+    let near = span-kept k.count k.start which in
+    let gone : dropped k ≡ d = ap₂ (λ n (xs : List Stamp). n - length xs) counted kept ∙ omega (arith, length-drop d all) in
+    let place : d + (w.from - d) ≡ w.from = omega (arith, near.0, counted) in
+    let long : w.to - d - (w.from - d) ≡ w.to - w.from = omega (arith, near.0, counted) in
+    ap₂ (λ n (xs : List Stamp). slice_range xs (w.from - n) (w.to - n)) gone kept
+    ∙ ap₂ (λ n xs. take n xs) long (drop-drop (w.from - d) d all ∙ ap (λ n. drop n all) place)
 
 -- what is said of one more stamp is what the definition says of it behind all
-pub base-push : (k : Kept) (freq : ℕ) (all : List Stamp) (s : Stamp) (answer : Base) → StandsFor k freq all → Judges k s answer → answer ≡ base_at freq (all ++ s ∷ []) (length all)
-unfolding base_at
-base-push k freq all s answer was says =
+pub base-push : (k : Kept) (freq : ℕ) (all : List Stamp) (s : Stamp) → StandsFor k freq all → judged_in (kept_with k s) ≡ base_at freq (all ++ s ∷ []) (length all)
+unfolding base_at least_trip
+base-push k freq all s was =
     let n : ℕ = length all in
-    let started : k.start ≡ start_before freq (all ++ s ∷ []) n = was.start ∙ sym (start_before-append freq all (s ∷ []) n (omega arith)) in
-    let early : k.start ≤ n = subst (λ start. start ≤ n) (sym was.start) (start_before-le freq all n) in
-    let since : says.least ≡ least_trip (all ++ s ∷ []) (max k.start (n - 1023)) n = says.since ∙ least-push k freq all s (max k.start (k.count - 1023)) was (omega (arith, was.count)) (omega (arith, was.count)) ∙ ap (λ i. least_trip (all ++ s ∷ []) (max k.start (i - 1023)) n) was.count in
-    let late : says.recent ≡ least_trip (all ++ s ∷ []) (n - 31) n = says.late ∙ least-push k freq all s (k.count - 31) was (omega (arith, was.count)) (omega (arith, was.count)) ∙ ap (λ i. least_trip (all ++ s ∷ []) (i - 31) n) was.count in
-    says.by
-    ∙ ap₂ (λ f i. judged f k.start i says.least says.recent) was.at was.count
-    ∙ ap₂ (judged freq k.start n) since late
-    ∙ ap (λ start. base_from freq (all ++ s ∷ []) start n) started
+    let more : List Stamp = all ++ s ∷ [] in
+    let k' : Kept = kept_with k s in
+    let counted : k'.count ≡ length more = omega (arith, was.count, length_push all s) in
+    let last : k'.count ≡ n + 1 = omega (arith, was.count) in
+    let least_of_range : List Stamp → ℕ = λ xs. least_of (map trip xs) in
+    let in_all : (which : Which) → stamps_in k' which ≡ slice_range more (span_in k' which).from (span_in k' which).to = λ which. stamps_in-all k' more which (stamps-push k freq all s was) counted in
+    let since : max k.start (k'.count - 1024) ≡ max k.start (n - 1023) = omega arith in
+    let late : k'.count - 32 ≡ n - 31 = omega arith in
+    let least : least_in k' which.Base ≡ least_trip more (max k.start (n - 1023)) n = ap least_of_range (in_all which.Base ∙ ap₂ (slice_range more) since last) in
+    let recent : least_in k' which.Recent ≡ least_trip more (n - 31) n = ap least_of_range (in_all which.Recent ∙ ap₂ (slice_range more) late last) in
+    let started : k.start ≡ start_before freq more n = was.start ∙ sym (start_before-append freq all (s ∷ []) n (omega arith)) in
+    let here : k'.count - 1 ≡ n = omega arith in
+    ap₂ (λ f i. judged f k.start i (least_in k' which.Base) (least_in k' which.Recent)) was.at here
+    ∙ ap₂ (judged freq k.start n) least recent
+    ∙ ap (λ start. base_from freq more start n) started
 
 -- a window with one more stamp stands for all with it
-pub stands-push : (k k' : Kept) (freq : ℕ) (all : List Stamp) (s : Stamp) (answer : Base) → StandsFor k freq all → Judges k s answer → k' ≡ record (kept_with k s) { start = answer.start } → StandsFor k' freq (all ++ s ∷ [])
+pub stands-push : (k k' : Kept) (freq : ℕ) (all : List Stamp) (s : Stamp) (answer : Base) → StandsFor k freq all → answer ≡ judged_in (kept_with k s) → k' ≡ record (kept_with k s) { start = answer.start } → StandsFor k' freq (all ++ s ∷ [])
 unfolding base_at start_before
 stands-push k k' freq all s answer was says after =
     let many : suc (length all) ≡ length (all ++ s ∷ []) = omega (arith, length_push all s) in
@@ -132,7 +118,7 @@ stands-push k k' freq all s answer was says after =
       at = ap (λ (k : Kept). k.freq) after ∙ was.at;
       stamps = ap (λ (k : Kept). k.stamps) after ∙ stamps-push k freq all s was;
       count = ap (λ (k : Kept). k.count) after ∙ omega (arith, was.count, length_push all s);
-      start = ap (λ (k : Kept). k.start) after ∙ ap (λ (b : Base). b.start) (base-push k freq all s answer was says) ∙ ap (start_before freq (all ++ s ∷ [])) many;
+      start = ap (λ (k : Kept). k.start) after ∙ ap (λ (b : Base). b.start) (says ∙ base-push k freq all s was) ∙ ap (start_before freq (all ++ s ∷ [])) many;
     }
 
 pub last-kept : (all : List Stamp) → last_of (keep_last 1024 all) ≡ last_of all

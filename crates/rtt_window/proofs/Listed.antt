@@ -38,7 +38,7 @@ padded-at xs count k s here =
 
 -- the first index of least round trip is where the first stamp of least round trip stands
 pub first_least-listed : (xs : List Stamp) (count from to i : ℕ) (s : Stamp) → length xs ≡ min 1024 count → count - length xs ≤ from → to ≤ count
-    → lists.IsFirstLeast (slice_index (padded xs count)) from to i → slice_get xs (i - (count - length xs)) ≡ Some s
+    → lists.IsFirstMinimum (slice_index (padded xs count)) from to i → slice_get xs (i - (count - length xs)) ≡ Some s
     → first_least (slice_range xs (from - (count - length xs)) (to - (count - length xs))) ≡ Some s
 first_least-listed xs count from to i s few early late is here =
     let gone : ℕ = count - length xs in
@@ -70,7 +70,7 @@ window-listed trips count start NearOld = refl
 window-listed trips count start NearNew = refl
 
 -- each window has indices of the last 1,024 stamps
-span-kept : (count start : ℕ) (which : Which) → (count - 1024 ≤ (span_of count start which).from) × ((span_of count start which).to ≤ count)
+pub span-kept : (count start : ℕ) (which : Which) → (count - 1024 ≤ (span_of count start which).from) × ((span_of count start which).to ≤ count)
 span-kept count start Base = (omega arith, omega arith)
 span-kept count start Recent = (omega arith, omega arith)
 span-kept count start WideOld = (omega arith, omega arith)
@@ -86,13 +86,13 @@ pub record IsListed (k : Kept) (which : Which) (i : ℕ) : Type 0 where
 
 -- so it is with what the lists say
 pub least-listed : (k : Kept) (ls : lists.Kept) (which : Which) (i : ℕ) → length k.stamps ≡ min 1024 k.count → ls ≡ listed (map trip k.stamps) k.count k.start
-    → ((all : List ℕ) → lists.StandsFor ls all → lists.IsFirstLeast (slice_index all) (lists.window ls which).from (lists.window ls which).to i) → IsListed k which i
+    → ((all : List ℕ) → lists.StandsFor ls all → lists.IsFirstMinimum (slice_index all) (lists.window ls which).from (lists.window ls which).to i) → IsListed k which i
 least-listed k ls which i few is_listed least =
     let all : List ℕ = padded k.stamps k.count in
     let w : lists.Span = span_of k.count k.start which in
     let window : lists.window ls which ≡ w = ap (λ ls. lists.window ls which) is_listed ∙ window-listed (map trip k.stamps) k.count k.start which in
     let stands = subst (λ ls. lists.StandsFor ls all) (sym is_listed) (padded-stands k.stamps k.count k.start few) in
-    let first : lists.IsFirstLeast (slice_index all) w.from w.to i = subst (λ (w : lists.Span). lists.IsFirstLeast (slice_index all) w.from w.to i) window (least all stands) in
+    let first : lists.IsFirstMinimum (slice_index all) w.from w.to i = subst (λ (w : lists.Span). lists.IsFirstMinimum (slice_index all) w.from w.to i) window (least all stands) in
     let near = span-kept k.count k.start which in
     let early : k.count - length k.stamps ≤ w.from = omega (arith, near.0) in
     record {

@@ -1,16 +1,16 @@
 -- The pair of stamps among the last ones.
-use Rattle.std.proofs.Common.{◌≡◌, ℕ, ◌+◌, ◌-◌, ◌<◌, ◌≤◌, nat_lt, true, false, Bool, cond, List, length, min, take, drop, slice_range, get_or, Option, Some, None, refl, sym, ap, ap₂, ◌∙◌, subst, arith, length-take, length-drop}
+use Rattle.std.proofs.Common.{◌≡◌, ℕ, ◌+◌, ◌-◌, ◌<◌, ◌≤◌, nat_lt, true, false, Bool, cond, List, length, min, take, drop, slice_range, slice_get, get_or, Option, Some, None, refl, sym, ap, ap₂, ◌∙◌, subst, arith, length-take, length-drop}
+use Rattle.std.specs.List.{All}
 use Rattle.std.specs.Option.{option_zip}
 use Rattle.std.proofs.lemmas.Bool.Decides.{nat_tests}
 use Rattle.std.proofs.lemmas.List.{drop-drop, take_rest, get_or-take, get_or-drop}
-use Rattle.std.proofs.lemmas.Option.{slice_get_within, get_or_from_slice_get, some_pair_parts}
+use Rattle.std.proofs.lemmas.Option.{slice_get_within, slice_get-get_or, get_or_from_slice_get, some_pair_parts}
 use Rattle.circular_buffer.specs.Buffer.{keep_last}
 use Rattle.min_lists.specs.declared.which.Which.{Which}
 use Rattle.min_lists.specs.Lists.{Span}
 use Rattle.stamp_text.specs.Accepted.{IsInRange, IsPlausible, Follows, AreAccepted}
 use Rattle.stamp_text.specs.declared.lines.Stamp.{Stamp}
-use Rattle.stamp_text.proofs.AcceptedLaws.{accepted-drop}
-use Rattle.rtt_window.specs.Pairs.{first_least, quarter, pair_among, pair_of, ArePair}
+use Rattle.rtt_window.specs.Pairs.{first_least, quarter, pair_among, pair_of, StandBefore, ArePair}
 use Rattle.rtt_window.specs.Spans.{first_quarter, last_quarter, span_of}
 use Rattle.rtt_window.specs.Windows.{Kept, stamps_in}
 use Rattle.rtt_window.proofs.FirstLeasts.{first_least-is}
@@ -87,29 +87,68 @@ among-parts near j k e =
     let both = zip-some (first_least (take (quarter n) near)) (first_least (keep_last (quarter n) near)) j k two.1 in
     record { many = grind (arith, nat_tests, two.0); j_is = both.0; k_is = both.1 }
 
--- a pair among accepted stamps is two accepted stamps
-among-accepted : (freq : ℕ) (near : List Stamp) (j k : Stamp) → AreAccepted freq near → pair_among near ≡ Some (j, k) → ArePair freq j k
-among-accepted freq near j k are e =
+-- what stands at a place of the first ones, and of the last ones, stands among all
+at-take : (n : ℕ) (xs : List Stamp) (place : ℕ) (s : Stamp) → slice_get (take n xs) place ≡ Some s → slice_get xs place ≡ Some s
+at-take n xs place s e =
+    let within = slice_get_within (take n xs) place s e in
+    slice_get-get_or xs place s (omega (arith, length-take n xs))
+    ∙ ap (λ s. Some s) (sym (get_or-take n xs place s (omega (arith, length-take n xs))) ∙ get_or_from_slice_get (take n xs) place s s e)
+
+at-drop : (n : ℕ) (xs : List Stamp) (place : ℕ) (s : Stamp) → slice_get (drop n xs) place ≡ Some s → slice_get xs (n + place) ≡ Some s
+at-drop n xs place s e =
+    let within = slice_get_within (drop n xs) place s e in
+    slice_get-get_or xs (n + place) s (omega (arith, length-drop n xs))
+    ∙ ap (λ s. Some s) (sym (get_or-drop n xs place s) ∙ get_or_from_slice_get (drop n xs) place s s e)
+
+-- the first of a pair stands before the second
+among-places : (near : List Stamp) (j k : Stamp) → pair_among near ≡ Some (j, k) → StandBefore near j k
+among-places near j k e =
     let n : ℕ = length near in
     let q : ℕ = quarter n in
     let found = among-parts near j k e in
     let at_j = first_least-is (take q near) j found.j_is in
     let at_k = first_least-is (keep_last q near) k found.k_is in
     let in_j = slice_get_within (take q near) at_j.place j at_j.there in
-    let in_k = slice_get_within (keep_last q near) at_k.place k at_k.there in
-    let b : ℕ = n - q + at_k.place in
-    let a_within : at_j.place < b = omega (arith, length-take q near, found.many) in
-    let b_within : b < n = omega (arith, length-drop (n - q) near) in
-    let is_j : get_or near at_j.place j ≡ j = sym (get_or-take q near at_j.place j (omega (arith, length-take q near))) ∙ get_or_from_slice_get (take q near) at_j.place j j at_j.there in
-    let is_k : get_or near b j ≡ k = sym (get_or-drop (n - q) near at_k.place j) ∙ get_or_from_slice_get (keep_last q near) at_k.place k j at_k.there in
     record {
-      timed_j = subst IsInRange is_j (are.timed at_j.place j (omega arith));
-      timed_k = subst IsInRange is_k (are.timed b j b_within);
-      sound_j = subst (IsPlausible freq) is_j (are.sound at_j.place j (omega arith));
-      sound_k = subst (IsPlausible freq) is_k (are.sound b j b_within);
-      follow = subst (λ k. Follows j k) is_k (subst (λ j'. Follows j' (get_or near b j)) is_j (are.follow at_j.place b j a_within b_within));
+      first = at_j.place;
+      second = n - q + at_k.place;
+      order = omega (arith, length-take q near, found.many);
+      at_first = at-take q near at_j.place j at_j.there;
+      at_second = at-drop (n - q) near at_k.place k at_k.there;
     }
 
--- the same of all
+-- also among all
+pub pair_of-places : (reach : ℕ) (all : List Stamp) (j k : Stamp) → pair_of reach all ≡ Some (j, k) → StandBefore all j k
+pair_of-places reach all j k e =
+    let d : ℕ = length all - reach in
+    let at = among-places (keep_last reach all) j k e in
+    record {
+      first = d + at.first;
+      second = d + at.second;
+      order = omega (arith, at.order);
+      at_first = at-drop d all at.first j at.at_first;
+      at_second = at-drop d all at.second k at.at_second;
+    }
+
+-- so what holds of all stamps holds of both
+pub pair_of-both : (P : Stamp → Type 0) (reach : ℕ) (all : List Stamp) (j k : Stamp) → All P all → pair_of reach all ≡ Some (j, k) → P j × P k
+pair_of-both P reach all j k are e =
+    let at = pair_of-places reach all j k e in
+    let holds : (place : ℕ) (s : Stamp) → slice_get all place ≡ Some s → P s = λ place s there. subst P (get_or_from_slice_get all place s s there) (are place s (slice_get_within all place s there)) in
+    (holds at.first j at.at_first, holds at.second k at.at_second)
+
+-- a pair of accepted stamps is two accepted stamps
 pub pair_of-accepted : (freq reach : ℕ) (all : List Stamp) (j k : Stamp) → AreAccepted freq all → pair_of reach all ≡ Some (j, k) → ArePair freq j k
-pair_of-accepted freq reach all j k are e = among-accepted freq (keep_last reach all) j k (accepted-drop freq (length all - reach) all are) e
+pair_of-accepted freq reach all j k are e =
+    let at = pair_of-places reach all j k e in
+    let timed = pair_of-both IsInRange reach all j k are.timed e in
+    let sound = pair_of-both (IsPlausible freq) reach all j k are.sound e in
+    let is_j : get_or all at.first j ≡ j = get_or_from_slice_get all at.first j j at.at_first in
+    let is_k : get_or all at.second j ≡ k = get_or_from_slice_get all at.second k j at.at_second in
+    record {
+      timed_j = timed.0;
+      timed_k = timed.1;
+      sound_j = sound.0;
+      sound_k = sound.1;
+      follow = subst (λ k. Follows j k) is_k (subst (λ j'. Follows j' (get_or all at.second j)) is_j (are.follow at.first at.second j at.order (slice_get_within all at.second k at.at_second)));
+    }

@@ -19,12 +19,14 @@ least_trip all from to = least_of (map trip (slice_range all from (to + 1)))
 -- four scales above, the level has shifted to it
 unfoldable pub judged : ℕ → ℕ → ℕ → ℕ → ℕ → Base
 judged freq start i least recent =
-    if nat_le 32 (i - start) && nat_lt (least + 4 * trip_scale freq) recent then record { base = recent; start = i - 31; shifted = true }
+    if nat_le 32 (i - start) && nat_lt (least + 4 * trip_scale freq) recent
+    then record { base = recent; start = i - 31; shifted = true }
     else record { base = least; start = start; shifted = false }
 
 -- the same of a list: the least since the start is over 1,024 stamps at most
 abbrev pub base_from : ℕ → List Stamp → ℕ → ℕ → Base
-base_from freq all start i = judged freq start i (least_trip all (max start (i - 1023)) i) (least_trip all (i - 31) i)
+base_from freq all start i =
+    judged freq start i (least_trip all (max start (i - 1023)) i) (least_trip all (i - 31) i)
 
 -- where the level began before stamp i: where it began after the stamp before
 unfoldable pub start_before : ℕ → List Stamp → ℕ → ℕ

@@ -18,15 +18,26 @@ pub record IsFirstLeast (all : List Stamp) (s : Stamp) : Type 0 where
   pub least : All (λ other. trip s ≤ trip other) all
   pub first : (k : ℕ) (d : Stamp) → k < place → trip s < trip (slice_index_or all k d)
 
+-- j stands before k in this list
+pub record StandBefore (all : List Stamp) (j k : Stamp) : Type 0 where
+  pub first : ℕ
+  pub second : ℕ
+  pub order : first < second
+  pub at_first : slice_get all first ≡ Some j
+  pub at_second : slice_get all second ≡ Some k
+
 -- a quarter of so many, and at least one
 abbrev pub quarter : ℕ → ℕ
 quarter n = max 1 (n / 4)
 
--- the first of least round trip in the first quarter, and that in the last quarter; a pair has two stamps
+-- the first of least round trip in the first quarter, and that in the last quarter; a pair has two
+-- stamps
 unfoldable pub pair_among : List Stamp → Option (Stamp × Stamp)
 pair_among near =
     if nat_lt (length near) 2 then None
-    else option_zip (first_least (take (quarter (length near)) near)) (first_least (keep_last (quarter (length near)) near))
+    else option_zip
+    (first_least (take (quarter (length near)) near))
+    (first_least (keep_last (quarter (length near)) near))
 
 -- the pair among the last stamps, as many as `reach`
 abbrev pub pair_of : ℕ → List Stamp → Option (Stamp × Stamp)

@@ -1,8 +1,10 @@
 -- What a window keeps, and which stamps that stands for.
-use Rattle.std.specs.Prelude.{◌≡◌, ℕ, ◌+◌, ◌-◌, ◌<◌, ◌≤◌, min, max, List, [], ◌∷◌, ◌++◌, length, map, drop, slice_range, IfSome}
+use Rattle.std.specs.Prelude.{◌≡◌, ℕ, ◌+◌, ◌-◌, ◌<◌, ◌≤◌, min, List, [], ◌∷◌, ◌++◌, length, map, slice_range, IfSome}
 use Rattle.circular_buffer.specs.Buffer.{Buffer, keep_last}
 use Rattle.min_lists.specs.declared.which.Which.{Which}
+use Rattle.min_lists.specs.declared.which.Which.TheVariants as windows
 use Rattle.min_lists.specs.Lists as lists
+use Rattle.min_lists.specs.Lists.{Span}
 use Rattle.stamp_text.specs.Accepted.{AreAccepted, last_of, trip}
 use Rattle.stamp_text.specs.declared.lines.Stamp.{Stamp}
 use Rattle.rtt_window.specs.Bases.{least_of, judged, start_before}
@@ -16,6 +18,10 @@ pub record Kept : Type 0 where
   pub start : ℕ
   pub freq : ℕ
 
+-- nothing was added
+abbrev pub nothing : ℕ → Kept
+nothing freq = record { stamps = []; count = 0; start = 0; freq = freq }
+
 -- a window that keeps this may have been given these stamps, at this frequency
 pub record StandsFor (k : Kept) (freq : ℕ) (all : List Stamp) : Type 0 where
   pub at : k.freq ≡ freq
@@ -25,32 +31,38 @@ pub record StandsFor (k : Kept) (freq : ℕ) (all : List Stamp) : Type 0 where
 
 -- with one more stamp, before it is judged
 abbrev pub kept_with : Kept → Stamp → Kept
-kept_with k s = record { stamps = keep_last 1024 (k.stamps ++ s ∷ []); count = k.count + 1; start = k.start; freq = k.freq }
+kept_with k s = record k { stamps = keep_last 1024 (k.stamps ++ s ∷ []); count = k.count + 1 }
 
--- the least round trip of the kept stamps from the one with this index among all on
-abbrev pub least_kept : Kept → ℕ → ℕ
-least_kept k from = least_of (map trip (drop (from - (k.count - length k.stamps)) k.stamps))
+-- how many of the added stamps are no longer kept
+abbrev pub dropped : Kept → ℕ
+dropped k = k.count - length k.stamps
 
--- the kept stamps in one of the six windows
+-- the indices of one of the six windows
+abbrev pub span_in : Kept → Which → Span
+span_in k which = span_of k.count k.start which
+
+-- the kept stamps in it
 abbrev pub stamps_in : Kept → Which → List Stamp
-stamps_in k which = slice_range k.stamps ((span_of k.count k.start which).from - (k.count - length k.stamps)) ((span_of k.count k.start which).to - (k.count - length k.stamps))
+stamps_in k which =
+    slice_range k.stamps ((span_in k which).from - dropped k) ((span_in k which).to - dropped k)
 
 -- it has a stamp
 abbrev pub HasStamp : Kept → Which → Type 0
-HasStamp k which = (span_of k.count k.start which).from < (span_of k.count k.start which).to
+HasStamp k which = (span_in k which).from < (span_in k which).to
+
+-- its least round trip
+abbrev pub least_in : Kept → Which → ℕ
+least_in k which = least_of (map trip (stamps_in k which))
+
+-- what is said of the newest stamp, by the windows
+abbrev pub judged_in : Kept → Base
+judged_in k =
+    judged k.freq k.start (k.count - 1) (least_in k windows.Base) (least_in k windows.Recent)
 
 -- the credit of a window, that of its lists: the steps that it may still take beside twelve for each
 -- stamp that is added
 unfoldable pub credit : Kept → ℕ
 credit k = lists.credit (listed (map trip k.stamps) k.count k.start)
-
--- what is said of one more stamp, by what is kept
-pub record Judges (k : Kept) (s : Stamp) (answer : Base) : Type 0 where
-  pub least : ℕ
-  pub recent : ℕ
-  pub since : least ≡ least_kept (kept_with k s) (max k.start (k.count - 1023))
-  pub late : recent ≡ least_kept (kept_with k s) (k.count - 31)
-  pub by : answer ≡ judged k.freq k.start k.count least recent
 
 -- what every window has. Accepted stamps are at most as many as the counts up to the last reply, so
 -- their number needs no bound of its own.

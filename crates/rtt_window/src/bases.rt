@@ -1,7 +1,6 @@
 // What is said of a stamp's round trip.
-ghost use Rattle.std.specs.Prelude.{◌≡◌, ◌≤◌, ◌<◌, ℕ, List, ◌++◌, length};
-ghost use Rattle.stamp_text.specs.declared.lines.Stamp.{Stamp};
-ghost use Rattle.rtt_window.specs.Bases.{judged, base_at};
+ghost use Rattle.std.specs.Prelude.{◌≡◌, ◌≤◌};
+ghost use Rattle.rtt_window.specs.Bases.{judged};
 
 use ff_grain::trip_scale;
 
@@ -43,9 +42,3 @@ pub fn judged(freq: u64, start: u64, i: u64, least: u64, recent: u64) -> Base
         }
     }
 }
-
-/// The law that what is said of a stamp depends on it and on the stamps before it alone: it stays,
-/// whatever stamps come behind.
-pub fn bases_stay()
-    ensures { (freq : ℕ) (all more : List Stamp) (i : ℕ) → i < length all → base_at freq (all ++ more) i ≡ base_at freq all i }
-{}

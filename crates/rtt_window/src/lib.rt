@@ -3,12 +3,12 @@
 #![tactic(auto)]
 
 mod bases;
-mod pairs;
+mod laws;
 mod spans;
 #[cfg(test)]
 mod tests;
 mod window;
 
-pub use bases::{Base, bases_stay};
-pub use pairs::firsts_are_least;
+pub use bases::Base;
+pub use laws::{bases_stay, firsts_are_least, pairs_are_of_the_list};
 pub use window::Window;

@@ -1,8 +1,8 @@
 // How the six windows over the round trips move with each stamp.
 ghost use Rattle.std.specs.Prelude.{◌≡◌, ◌+◌, ◌-◌, ◌<◌, ◌≤◌, ◌^◌, [], ◌∷◌, ◌++◌};
-ghost use Rattle.min_lists.specs.Lists.{window, with_window, with_start, last_trips, credit};
+ghost use Rattle.min_lists.specs.Lists.{window, with_start, last_trips, credit};
 ghost use Rattle.rtt_window.specs.Pairs.{quarter};
-ghost use Rattle.rtt_window.specs.Spans.{first_quarter, span_of, listed};
+ghost use Rattle.rtt_window.specs.Spans.{first_quarter, span_of, listed, with_end};
 
 use crate::bases::RECENT;
 use min_lists::{Lists, Which};
@@ -73,7 +73,7 @@ fn enter<L: Ledger>(lists: &mut Lists, which: Which, count: u64, steps: &mut Ste
     requires few { count < 2 ^ 62 }
     requires added { lists.old.count ≡ count }
     requires at { (window lists.old which).to ≡ (span_of (count - 1) 0 which).to }
-    ensures kept { lists.new ≡ with_window lists.old which (record { from = (window lists.old which).from; to = (span_of count 0 which).to }) }
+    ensures kept { lists.new ≡ with_end lists.old which (span_of count 0 which).to }
     ensures steps { steps.old ≤ steps.new }
     ensures credit { steps.new + credit lists.new ≤ steps.old + credit lists.old + 2 }
 {

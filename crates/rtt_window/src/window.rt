@@ -1,14 +1,14 @@
 // The window of the latest accepted stamps.
-ghost use Rattle.std.specs.Prelude.{◌≡◌, ℕ, ◌+◌, ◌-◌, ◌<◌, ◌≤◌, ◌^◌, List, [], ◌∷◌, ◌++◌, length, map, min, slice_get, slice_range, ◌↔◌, IsNone, Some, IfSome, Ok, IfOk};
+ghost use Rattle.std.specs.Prelude.{◌≡◌, ℕ, ◌+◌, ◌<◌, ◌≤◌, List, [], ◌∷◌, ◌++◌, length, min, slice_get, slice_range, ◌↔◌, IsTrue, IsNone, Some, IfSome, Ok, IfOk};
 ghost use Rattle.std.specs.List.{All};
 ghost use Rattle.circular_buffer.specs.Buffer.{keep_last};
 ghost use Rattle.stamp_text.specs.Accepted.{IsInRange, IsPlausible, accept_of, last_of, trip};
 ghost use Rattle.stamp_text.specs.declared.lines.Stamp.{Stamp};
-ghost use Rattle.rtt_window.specs.Bases.{least_of, base_at};
+ghost use Rattle.rtt_window.specs.Bases.{base_at};
 ghost use Rattle.rtt_window.specs.Pairs.{first_least, pair_of, ArePair};
-ghost use Rattle.rtt_window.specs.Windows.{StandsFor, Judges, HasStamp, kept_with, stamps_in, credit};
+ghost use Rattle.rtt_window.specs.Windows.{nothing, StandsFor, HasStamp, kept_with, stamps_in, least_in, judged_in, credit};
 
-use crate::bases::{Base, RECENT, judged};
+use crate::bases::{Base, judged};
 use crate::spans::{WIDE, left_end, quarter, slide};
 use circular_buffer::HeapCircularBuffer;
 use ff_grain::NoMemory;
@@ -99,7 +99,7 @@ impl Window {
     pub fn new(alloc: Global, freq: u64) -> Result<Window, NoMemory>
         requires low { 1000000 ≤ freq }
         requires high { freq ≤ 16000000000 }
-        ensures kept { IfOk result (λ w. w ≡ record { stamps = []; count = 0; start = 0; freq = freq }) }
+        ensures kept { IfOk result (λ w. w ≡ nothing freq) }
         ensures stands { IfOk result (λ w. StandsFor w freq []) }
         ensures credit { IfOk result (λ w. credit w ≡ 0) }
     {
@@ -153,7 +153,7 @@ impl Window {
     // Its round trip.
     fn least_trip(&self, which: Which) -> u64
         requires some { HasStamp self.now which }
-        ensures { result ≡ least_of (map trip (stamps_in self.now which)) }
+        ensures { result ≡ least_in self.now which }
     {
         trip(&self.least_in(which))
     }
@@ -177,7 +177,7 @@ impl Window {
     fn judge<L: Ledger>(&mut self, s: Stamp, steps: &mut Steps<L>) -> Base
         requires timed { IsInRange s }
         requires accepted { accept_of (last_of self.old.stamps) s self.old.freq ≡ Ok tt }
-        ensures judges { Judges self.old s result }
+        ensures base { result ≡ judged_in (kept_with self.old s) }
         ensures kept { self.new ≡ record (kept_with self.old s) { start = result.start } }
         ensures steps { steps.old ≤ steps.new }
         ensures credit { steps.new + credit self.new ≤ steps.old + credit self.old + 12 }
@@ -206,8 +206,10 @@ impl Window {
         ensures kept { self.new.stamps ≡ keep_last 1024 (self.old.stamps ++ s ∷ []) }
         ensures count { self.new.count ≡ self.old.count + 1 }
         ensures freq { self.new.freq ≡ self.old.freq }
-        ensures stands { (freq : ℕ) (all : List Stamp) → StandsFor self.old freq all → StandsFor self.new freq (all ++ s ∷ []) }
-        ensures base { (freq : ℕ) (all : List Stamp) → StandsFor self.old freq all → result ≡ base_at freq (all ++ s ∷ []) (length all) }
+        ensures stands { (freq : ℕ) (all : List Stamp) → StandsFor self.old freq all →
+            StandsFor self.new freq (all ++ s ∷ []) }
+        ensures base { (freq : ℕ) (all : List Stamp) → StandsFor self.old freq all →
+            result ≡ base_at freq (all ++ s ∷ []) (length all) }
         ensures steps { steps.old ≤ steps.new }
         ensures credit { steps.new + credit self.new ≤ steps.old + credit self.old + 12 }
     {
@@ -227,6 +229,13 @@ impl Window {
         ensures most { result ≡ min 1024 self.now.count }
     {
         self.stamps.len()
+    }
+
+    /// Whether none is kept.
+    pub fn is_empty(&self) -> bool
+        ensures { IsTrue result ↔ (length self.now.stamps ≡ 0) }
+    {
+        self.stamps.is_empty()
     }
 
     /// The kept stamp at the place `i`, the oldest at 0.
@@ -252,7 +261,8 @@ impl Window {
         requires two { 2 ≤ reach }
         requires kept { reach ≤ 1024 }
         ensures value { result ≡ pair_of reach self.now.stamps }
-        ensures all { (freq : ℕ) (all : List Stamp) → StandsFor self.now freq all → result ≡ pair_of reach all }
+        ensures all { (freq : ℕ) (all : List Stamp) → StandsFor self.now freq all →
+            result ≡ pair_of reach all }
         ensures none { IsNone result ↔ (length self.now.stamps < 2) }
         ensures pair { IfSome result (λ p. ArePair self.now.freq p.0 p.1) }
     {

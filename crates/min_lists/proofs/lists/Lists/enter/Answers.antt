@@ -25,7 +25,7 @@ returns-clause-does g c =
     rw (← c.self.view_is) (
       c.enter.ensures.forward,
       credit_enter l.nodes c.enter.new.nodes l.count l.windows p c.enter.result c.args.steps.now c.enter.new.steps room c.self.invariant new c.enter.ensures.cost c.args.which c.place-place.ensures.value,
-      λ other ne. credit_others l.nodes c.enter.new.nodes l.count l.windows p c.enter.result room c.self.invariant new (fun_ext c.enter.ensures.enters.trips) other (λ e. ne (place_same c.args.which other (e ∙ c.place-place.ensures.value))),
+      λ other ne. credit_others l.nodes c.enter.new.nodes l.count l.windows p c.enter.result room c.self.invariant new (fun_ext c.enter.ensures.enters.trips) other (λ e. ne (place_same other c.args.which (e ∙ c.place-place.ensures.value))),
     )
 
 pub returns-clause-credit : goal.returns-clause-credit

@@ -1,5 +1,5 @@
 use Rattle.rtt_window.proofs.FirstLeasts.{first_least-is}
-use Rattle.rtt_window.proofs.pairs.firsts_are_least.Goals as goal
+use Rattle.rtt_window.proofs.laws.firsts_are_least.Goals as goal
 
 pub returns : goal.returns
 returns c = first_least-is

@@ -1,5 +1,5 @@
 use Rattle.rtt_window.proofs.Prefixes.{base_at-append}
-use Rattle.rtt_window.proofs.bases.bases_stay.Goals as goal
+use Rattle.rtt_window.proofs.laws.bases_stay.Goals as goal
 
 pub returns : goal.returns
 returns c = base_at-append
