@@ -4,9 +4,11 @@ mod rows;
 
 use crate::tests::large::{NUMBERED, REPEATED};
 use crate::tests::rows::{HEAD, LONG_LINES, NEVER, OTHER_WORDS, PULLS, PUSHES, ROOM, RUNS};
-use crate::{Status, run};
-use rad_io::{MemSink, MemSource};
+use crate::{Status, run, run_in_blocks};
+use rad_io::{MemSink, MemSource, StdSink, StdSource};
 use std::alloc::Global;
+use std::io;
+use std::io::Write;
 use std::process::Abort;
 use std::test::Fail;
 
@@ -177,6 +179,49 @@ fn many_stamps_are_told(rt: HostRuntime) -> Result<(), Fail> {
         }
         input.push_str(rest)?;
         ends_large(&rt, rt.alloc(), words, &input, *code, end)?;
+    }
+    Ok(())
+}
+
+// A writer that takes so many writes whole and fails each other one. It counts all.
+struct Halting {
+    left: u32,
+    writes: u32,
+}
+
+impl Write for Halting {
+    fn write(&mut self, buf: &[u8]) -> io::Result<usize> {
+        self.writes = self.writes.saturating_add(1);
+        if self.left == 0 {
+            return Err(io::Error::from(io::ErrorKind::BrokenPipe));
+        }
+        self.left -= 1;
+        Ok(buf.len())
+    }
+
+    fn flush(&mut self) -> io::Result<()> {
+        Ok(())
+    }
+}
+
+#[test]
+fn no_write_follows_one_that_failed(rt: HostRuntime) -> Result<(), Fail> {
+    // 1,500 lines of 60 to 80 bytes make two blocks.
+    let rows = [
+        ("make 7 3", 9, 0, 1),
+        ("make 7 3", 0, 4, 1),
+        ("make 7 1500", 9, 0, 2),
+        ("make 7 1500", 1, 4, 2),
+        ("make 7 1500", 0, 4, 1),
+    ];
+    for (line, left, code, writes) in rows {
+        let words = words_of(rt.alloc(), line)?;
+        let mut source = StdSource::new(b"".as_slice());
+        let mut writer = Halting { left, writes: 0 };
+        let sink = StdSink::new(&mut writer);
+        let (status, _) = run_in_blocks(rt.alloc(), &words, &mut source, sink)?;
+        assert_eq!(rt; status.code(), code, "at {line}: {left}");
+        assert_eq!(rt; writer.writes, writes, "at {line}: {left}");
     }
     Ok(())
 }
