@@ -1,15 +1,17 @@
 -- What follows where a stamp is accepted.
-use Rattle.std.proofs.Common.{◌≡◌, inl, inr, ℕ, ◌+◌, ◌-◌, ◌<◌, Bool, true, false, List, [], ◌∷◌, ◌++◌, length, get_or, drop, Option, Some, Ok, refl, sym, ap, ◌∙◌, subst, arith, length-drop}
+use Rattle.std.proofs.Common.{◌≡◌, inl, inr, ℕ, ◌+◌, ◌-◌, ◌<◌, Bool, true, false, List, [], ◌∷◌, ◌++◌, length, get_or, drop, Option, Some, Result, Ok, Err, All, refl, sym, ap, ◌∙◌, subst, arith, length-drop}
 use Rattle.std.specs.List.{AllByRecursion}
 use Rattle.std.proofs.Math.Nat.{eq-or-lt_of_le}
 use Rattle.std.proofs.lemmas.Bool.Decides.{nat_tests}
 use Rattle.std.proofs.lemmas.Int.{ints}
 use Rattle.std.proofs.lemmas.List.{get_or-drop}
-use Rattle.std.proofs.lemmas.List.Elements.{All-push, All-drop}
+use Rattle.std.proofs.lemmas.List.Elements.{All-nil, All-push, All-drop, All-head, All-tail, filter_map-append}
 use Rattle.std.proofs.lemmas.List.Quantifiers.{all_pairs_push}
+use Rattle.std.proofs.lemmas.List.Sums.{fold-append}
 use Rattle.std.proofs.lemmas.Option.{slice_get-get_or}
-use Rattle.stamp_text.specs.Accepted.{first_that_holds, tests_of, accept_of, IsInRange, IsPlausible, Follows, last_of, AreAccepted}
+use Rattle.stamp_text.specs.Accepted.{first_that_holds, tests_of, accept_of, IsInRange, IsPlausible, Follows, last_of, accepted_with, accepted_all, stamp_of_line, stamps_among, accepted_of_lines, AreAccepted}
 use Rattle.stamp_text.specs.declared.accepts.Refused.{Refused}
+use Rattle.stamp_text.specs.declared.lines.Line.{Line}
 use Rattle.stamp_text.specs.declared.lines.Stamp.{Stamp}
 
 -- where no test refuses, none holds
@@ -67,3 +69,25 @@ accepted-drop freq n xs are = record {
   sound = All-drop (IsPlausible freq) n xs are.sound;
   follow = λ i j d before here. rw (get_or-drop n xs i d, get_or-drop n xs j d) (are.follow (n + i) (n + j) d (omega arith) (omega (arith, length-drop n xs)));
 }
+
+-- no stamps
+pub accepted-none : (freq : ℕ) → AreAccepted freq []
+accepted-none freq = record { timed = All-nil IsInRange; sound = All-nil (IsPlausible freq); follow = λ i j d before here. absurd (omega arith) }
+
+-- the accepted stamps behind accepted ones
+pub accepted-all : (freq : ℕ) (before stamps : List Stamp) → AreAccepted freq before → All IsInRange stamps → AreAccepted freq (accepted_all freq before stamps)
+accepted-all freq before [] are timed = are
+accepted-all freq before (s ∷ ss) are timed =
+    let later : All IsInRange ss = All-tail IsInRange s ss timed in
+    let split : (r : Result (Unit {0}) Refused) → accept_of (last_of before) s freq ≡ r → AreAccepted freq (accepted_all freq (accepted_with before s r) ss) =
+    elim [
+      | Ok o ↦ λ e. accepted-all freq (before ++ s ∷ []) ss (accepted-push freq before s are (All-head IsInRange s ss timed) e) later
+      | Err why ↦ λ e. accepted-all freq before ss are later
+    ] in
+    split (accept_of (last_of before) s freq) refl
+
+-- the accepted stamps with one more line
+pub accepted-line : (freq : ℕ) (lines : List Line) (line : Line) → accepted_of_lines freq (lines ++ line ∷ []) ≡ accepted_all freq (accepted_of_lines freq lines) (stamps_among (line ∷ []))
+accepted-line freq lines line =
+    ap (accepted_all freq []) (filter_map-append stamp_of_line lines (line ∷ []))
+    ∙ fold-append (λ all s. accepted_with all s (accept_of (last_of all) s freq)) [] (stamps_among lines) (stamps_among (line ∷ []))

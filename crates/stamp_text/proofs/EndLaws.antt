@@ -9,7 +9,7 @@ use Rattle.stamp_text.specs.declared.lines.Why.TheVariants as why
 use Rattle.stamp_text.specs.Cut.{ended_lines, open_line, with_last}
 use Rattle.stamp_text.specs.Grammar.{short_says, line_says, given_from, given_on, fault_from, fault_on, early_fault, first_fault, fault_so_far, given, missing, fault_of_file, given_of_file}
 use Rattle.stamp_text.specs.Kept.{Kept, IsAt, StandsFor, AnswersByte, AnswersEnd, IsFaultOfAll}
-use Rattle.stamp_text.specs.Steps.{line_number, at_line, unless_faulty, step_answer, last_answer, nothing_unless, second_line, sound_end}
+use Rattle.stamp_text.specs.FeedSteps.{line_number, at_line, unless_faulty, step_answer, last_answer, nothing_unless, second_line, sound_end}
 use Rattle.stamp_text.proofs.GrammarLaws.{fault_from-push, given_from-push, given_on-last}
 use Rattle.stamp_text.proofs.FeedLaws.{no_fault, early-short, early-feed, counted, first_fault-later, fault-stays-all, step_answers}
 

@@ -9,7 +9,7 @@ use Rattle.stamp_text.specs.declared.lines.Why.TheVariants as why
 use Rattle.stamp_text.specs.Cut.{ended_lines, open_line}
 use Rattle.stamp_text.specs.Grammar.{short_says, line_says, given_from, given_on, fault_from, fault_on, early_fault, first_fault, fault_so_far, given}
 use Rattle.stamp_text.specs.Kept.{Kept, IsAt, StandsFor, AnswersByte}
-use Rattle.stamp_text.specs.Steps.{line_number, at_line, sound_answer, unless_faulty, step_answer, step_kept}
+use Rattle.stamp_text.specs.FeedSteps.{line_number, at_line, sound_answer, unless_faulty, step_answer, step_kept}
 use Rattle.stamp_text.proofs.CutLaws.{ended_lines-feed, open_line-feed, ended_lines-more, open_line-more, ended_lines-short}
 use Rattle.stamp_text.proofs.GrammarLaws.{first_none, fault_from-push, given_from-push, given_on-last}
 

@@ -1,5 +1,5 @@
 -- The first byte of a kind in a text, and what it cuts the text into.
-use Rattle.std.proofs.Common.{◌≡◌, ℕ, ◌+◌, ◌^◌, ◌-◌, ◌<◌, ◌≤◌, ◌||◌, ◌==◌, Bor, MatchOption, not, min, Bool, true, false, cond, ltb, List, [], ◌∷◌, Option, None, Some, length, refl, sym, ap, ◌∙◌, arith}
+use Rattle.std.proofs.Common.{◌≡◌, ℕ, ◌+◌, ◌^◌, ◌-◌, ◌<◌, ◌≤◌, ◌||◌, ◌==◌, Bor, MatchOption, IfNone, IfSome, OnSome, not, min, Bool, true, false, cond, ltb, List, [], ◌∷◌, Option, None, Some, length, refl, sym, ap, ◌∙◌, arith}
 use Rattle.std.specs.List.{list_any, position, position_or_len, before_first, after_first, slice_split}
 use Rattle.std.specs.Option.{option_map}
 use Rattle.std.proofs.lemmas.Bool.Decides.{nat_tests}
@@ -22,9 +22,9 @@ one_piece : (p : ℕ → Bool) (xs : List ℕ) → position_or_len p xs ≡ leng
 one_piece p xs h = slice_split_none p xs (λ k d below. fails_before_first p xs k d (omega arith))
 
 -- the first piece of a text that is cut at a space, and the rest
-pub cut_pieces : (text : List ℕ) (r : Option (Bor (List ℕ) × Bor (List ℕ))) → MatchOption r (position_or_len (λ b. b == 32) text ≡ length text) (λ parts. (position_or_len (λ b. b == 32) text < length text) × (parts.0.now ≡ before_first (λ b. b == 32) text) × (parts.1.now ≡ after_first (λ b. b == 32) text)) → MatchOption r (pieces_of text ≡ text ∷ []) (λ p. pieces_of text ≡ p.0.now ∷ pieces_of p.1.now)
-cut_pieces text None h = one_piece (λ b. b == 32) text h
-cut_pieces text (Some p) h = let first = slice_split_first (λ b. b == 32) text 0 h.0 in cc (h.1, h.2)
+pub cut_pieces : (text : List ℕ) (r : Option (Bor (List ℕ) × Bor (List ℕ))) → IfNone r (position_or_len (λ b. b == 32) text ≡ length text) → OnSome r (position_or_len (λ b. b == 32) text < length text) → IfSome r (λ parts. parts.0.now ≡ before_first (λ b. b == 32) text) → IfSome r (λ parts. parts.1.now ≡ after_first (λ b. b == 32) text) → MatchOption r (pieces_of text ≡ text ∷ []) (λ p. pieces_of text ≡ p.0.now ∷ pieces_of p.1.now)
+cut_pieces text None none found before behind = one_piece (λ b. b == 32) text none
+cut_pieces text (Some p) none found before behind = let first = slice_split_first (λ b. b == 32) text 0 found in cc (before, behind)
 
 -- a text has such a byte where the first of them has a place
 any_placed : (p : ℕ → Bool) (xs : List ℕ) → list_any p xs ≡ ltb (position_or_len p xs) (length xs)

@@ -19,7 +19,7 @@ use Rattle.stamp_text.specs.Times.{is_fraction, nanos_of, nanos_in, written_of, 
 use Rattle.stamp_text.specs.Stamps.{pieces_of, is_empty, stamp_within, stamp_of_numbers, stamp_of_pieces, stamp_in}
 use Rattle.stamp_text.specs.Grammar.{version_says, freq_within, head_of, freq_says, is_skipped, stamp_at, entry_says, text_says, short_says, missing}
 use Rattle.stamp_text.specs.Kept.{Kept}
-use Rattle.stamp_text.specs.Steps.{line_number, at_line, sound_answer, unless_faulty, step_answer, second_line, nothing_unless, sound_end, last_answer}
+use Rattle.stamp_text.specs.FeedSteps.{line_number, at_line, sound_answer, unless_faulty, step_answer, second_line, nothing_unless, sound_end, last_answer}
 
 -- an answer, with what it gives in range
 abbrev pub GivesInRange : {E : Type 0} → Result (Option Line) E → Type 0
@@ -35,7 +35,7 @@ head-in-range : (o : Option ℕ) → GivesInRange (head_of (freq_within o))
 head-in-range None = tt
 head-in-range (Some n) =
     let split : (t : Bool) → t ≡ (leb 1000000 n && leb n 16000000000) → GivesInRange (head_of (cond t (Some n) None)) =
-    elim [ true ↦ λ e. (grind (arith, nat_tests), grind (arith, nat_tests)) | false ↦ λ e. tt ] in
+    elim [ true ↦ λ e. record { version = refl; low = grind (arith, nat_tests); high = grind (arith, nat_tests) } | false ↦ λ e. tt ] in
     split _ refl
 
 -- line 2 gives a head in range

@@ -1,18 +1,20 @@
 -- Which stamps are accepted.
-use Rattle.std.specs.Prelude.{ℕ, pos, ◌-◌, ◌*◌, ◌<◌, ◌≤◌, ◌≤ℤ◌, ◌-ℤ◌, int_lt, Bool, false, nat_le, nat_lt, if◌then◌else◌, List, [], ◌∷◌, ◌++◌, length, fold, slice_get, Option, None, Some, Result, Ok, Err}
+use Rattle.std.specs.Prelude.{◌≡◌, ℕ, pos, ◌-◌, ◌*◌, ◌<◌, ◌≤◌, ◌≤ℤ◌, ◌-ℤ◌, int_lt, Bool, false, nat_le, nat_lt, if◌then◌else◌, List, [], ◌∷◌, ◌++◌, length, fold, slice_get, filter_map, Option, None, Some, Result, Ok, Err}
 use Rattle.std.specs.List.{All, AllPairs}
 use Rattle.ff_grain.specs.Grains.{number_of, IsTime}
 use Rattle.ff_grain.specs.Periods.{highest_period}
+use Rattle.stamp_text.specs.Format.{count_limit, least_freq, greatest_freq}
 use Rattle.stamp_text.specs.declared.accepts.Refused.{Refused}
 use Rattle.stamp_text.specs.declared.accepts.Refused.TheVariants as refused
+use Rattle.stamp_text.specs.declared.lines.Head.{Head}
 use Rattle.stamp_text.specs.declared.lines.Line.{Line}
 use Rattle.stamp_text.specs.declared.lines.Line.TheVariants as gives
 use Rattle.stamp_text.specs.declared.lines.Stamp.{Stamp}
 
 -- counters below 2^62, and such times
 pub record IsInRange (s : Stamp) : Type 0 where
-  pub ta : s.ta < 4611686018427387904
-  pub tf : s.tf < 4611686018427387904
+  pub ta : s.ta < count_limit
+  pub tf : s.tf < count_limit
   pub tb : IsTime s.tb
   pub te : IsTime s.te
 
@@ -20,9 +22,15 @@ pub record IsInRange (s : Stamp) : Type 0 where
 abbrev pub trip : Stamp → ℕ
 trip s = s.tf - s.ta
 
+-- version 1, and a frequency from 1 MHz to 16 GHz
+pub record IsHeadInRange (h : Head) : Type 0 where
+  pub version : h.version ≡ 1
+  pub low : least_freq ≤ h.freq
+  pub high : h.freq ≤ greatest_freq
+
 -- what a line gives is a head or a stamp in its ranges
 abbrev pub IsLineInRange : Line → Type 0
-IsLineInRange (gives.Head h) = (1000000 ≤ h.freq) × (h.freq ≤ 16000000000)
+IsLineInRange (gives.Head h) = IsHeadInRange h
 IsLineInRange (gives.Stamp n s) = IsInRange s
 
 -- it was sent before the one before it was answered
@@ -84,6 +92,19 @@ accepted_with accepted s (Err why) = accepted
 -- accepted one before it
 abbrev pub accepted_all : ℕ → List Stamp → List Stamp → List Stamp
 accepted_all freq accepted more = fold (λ all s. accepted_with all s (accept_of (last_of all) s freq)) accepted more
+
+-- the stamp that a line gives, if it gives one
+abbrev pub stamp_of_line : Line → Option Stamp
+stamp_of_line (gives.Head h) = None
+stamp_of_line (gives.Stamp n s) = Some s
+
+-- the stamps among lines
+abbrev pub stamps_among : List Line → List Stamp
+stamps_among lines = filter_map stamp_of_line lines
+
+-- the accepted stamps of lines, from the first line on
+abbrev pub accepted_of_lines : ℕ → List Line → List Stamp
+accepted_of_lines freq lines = accepted_all freq [] (stamps_among lines)
 
 -- what stamps have each of which was accepted behind the one before it
 pub record AreAccepted (freq : ℕ) (all : List Stamp) : Type 0 where

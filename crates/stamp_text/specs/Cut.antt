@@ -1,26 +1,20 @@
 -- A text cut into its lines, and a line without its carriage return.
-use Rattle.std.specs.Prelude.{ℕ, ◌-◌, List, [], ◌∷◌, ◌++◌, length, take, drop, codes, if◌then◌else◌, ◌==◌}
+use Rattle.std.specs.Prelude.{ℕ, ◌-◌, List, [], ◌∷◌, ◌++◌, length, get_or, take, drop, codes, if◌then◌else◌, ◌==◌}
+use Rattle.std.specs.List.{slice_split}
 use Rattle.std.specs.Str.{bytes_eq}
+use Rattle.stamp_text.specs.Format.{line_feed}
 
--- a byte in front of the first line, if there is one
-abbrev pub glue_lines : ℕ → List (List ℕ) → List (List ℕ)
-glue_lines b [] = []
-glue_lines b (line ∷ lines) = (b ∷ line) ∷ lines
+-- a text, cut at each line feed
+abbrev pub parts_of : List ℕ → List (List ℕ)
+parts_of text = slice_split (λ b. b == line_feed) text
 
--- a byte in front of the open line, where no line has ended
-abbrev pub glue_open : ℕ → List (List ℕ) → List ℕ → List ℕ
-glue_open b [] last = b ∷ last
-glue_open b (line ∷ lines) last = last
-
--- the lines that a line feed ends, each without it
+-- the lines that a line feed ends, each without it: all parts but the last
 abbrev pub ended_lines : List ℕ → List (List ℕ)
-ended_lines [] = []
-ended_lines (b ∷ bs) = if b == 10 then [] ∷ ended_lines bs else glue_lines b (ended_lines bs)
+ended_lines text = take (length (parts_of text) - 1) (parts_of text)
 
--- what follows the last line feed: the line that has not ended
+-- what follows the last line feed, the line that has not ended: the last part
 abbrev pub open_line : List ℕ → List ℕ
-open_line [] = []
-open_line (b ∷ bs) = if b == 10 then open_line bs else glue_open b (ended_lines bs) (open_line bs)
+open_line text = get_or (parts_of text) (length (parts_of text) - 1) []
 
 -- an open line is a line at the end of the text, if it has bytes
 abbrev pub with_last : List (List ℕ) → List ℕ → List (List ℕ)

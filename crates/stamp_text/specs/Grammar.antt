@@ -1,6 +1,7 @@
 -- What a stamp file says, line by line, and where it is refused first.
 use Rattle.std.specs.Prelude.{ℕ, ◌+◌, List, [], ◌∷◌, Bool, true, ◌&&◌, nat_le, nat_lt, if◌then◌else◌, ◌==◌, Option, None, Some, Result, Ok, Err, codes, length, take, drop}
 use Rattle.std.specs.Str.{bytes_eq}
+use Rattle.stamp_text.specs.Format.{number_sign, line_limit, least_freq, greatest_freq}
 use Rattle.stamp_text.specs.Cut.{ended_lines, open_line, file_lines, without_return}
 use Rattle.stamp_text.specs.Digits.{number_in}
 use Rattle.stamp_text.specs.Stamps.{stamp_in}
@@ -18,7 +19,7 @@ version_says line = if bytes_eq line (codes "radclock-stamps 1") then Ok None el
 -- a frequency from 1 MHz to 16 GHz
 abbrev pub freq_within : Option ℕ → Option ℕ
 freq_within None = None
-freq_within (Some n) = if nat_le 1000000 n && nat_le n 16000000000 then Some n else None
+freq_within (Some n) = if nat_le least_freq n && nat_le n greatest_freq then Some n else None
 
 abbrev pub freq_in : List ℕ → Option ℕ
 freq_in line = if bytes_eq (take 5 line) (codes "freq ") then freq_within (number_in (drop 5 line)) else None
@@ -35,7 +36,7 @@ freq_says line = head_of (freq_in line)
 -- a line without bytes, or a comment
 abbrev pub is_skipped : List ℕ → Bool
 is_skipped [] = true
-is_skipped (b ∷ bs) = b == 35
+is_skipped (b ∷ bs) = b == number_sign
 
 abbrev pub stamp_at : ℕ → Result Stamp Why → Result (Option Line) Why
 stamp_at n (Ok stamp) = Ok (Some (gives.Stamp n stamp))
@@ -55,7 +56,7 @@ short_says n line = text_says n (without_return line)
 
 -- what the line of a number says; a carriage return at its end counts in its length
 abbrev pub line_says : ℕ → List ℕ → Result (Option Line) Why
-line_says n line = if nat_lt 255 (length line) then Err why.LongLine else short_says n line
+line_says n line = if nat_lt line_limit (length line) then Err why.LongLine else short_says n line
 
 -- the lines that are given, from line n on up to the first that is refused
 abbrev pub given_on : Result (Option Line) Why → List Line → List Line
@@ -78,7 +79,7 @@ fault_from n (line ∷ lines) = fault_on n (line_says n line) (fault_from (n + 1
 
 -- a fault of a line that has not ended: it is too long already
 abbrev pub early_fault : ℕ → List ℕ → Option LineFault
-early_fault n line = if nat_lt 255 (length line) then Some (record { line = n; why = why.LongLine }) else None
+early_fault n line = if nat_lt line_limit (length line) then Some (record { line = n; why = why.LongLine }) else None
 
 abbrev pub first_fault : Option LineFault → Option LineFault → Option LineFault
 first_fault None later = later

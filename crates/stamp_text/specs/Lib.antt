@@ -1,3 +1,4 @@
+pub mod Format
 pub mod Cut
 pub mod Digits
 pub mod Times
@@ -5,4 +6,4 @@ pub mod Stamps
 pub mod Grammar
 pub mod Accepted
 pub mod Kept
-pub mod Steps
+pub mod FeedSteps

@@ -2,6 +2,7 @@
 use Rattle.std.specs.Prelude.{ℕ, List, [], ◌∷◌, Bool, true, false, ◌&&◌, ◌||◌, nat_lt, if◌then◌else◌, ◌==◌, Option, Some, Result, Ok, Err}
 use Rattle.std.specs.List.{slice_split}
 use Rattle.ff_grain.specs.Grains.{of_nanos}
+use Rattle.stamp_text.specs.Format.{space, count_limit, second_limit}
 use Rattle.stamp_text.specs.Digits.{number_in}
 use Rattle.stamp_text.specs.Times.{time_in}
 use Rattle.stamp_text.specs.declared.lines.Stamp.{Stamp}
@@ -11,11 +12,11 @@ use Rattle.stamp_text.specs.declared.numbers.Written.{Written}
 
 -- a line, cut at each space
 abbrev pub pieces_of : List ℕ → List (List ℕ)
-pieces_of line = slice_split (λ b. b == 32) line
+pieces_of line = slice_split (λ b. b == space) line
 
 -- counters below 2^62, and seconds below 2^32
 abbrev pub stamp_within : ℕ → Written → Written → ℕ → Result Stamp Why
-stamp_within ta tb te tf = if nat_lt ta 4611686018427387904 && nat_lt tb.sec 4294967296 && nat_lt te.sec 4294967296 && nat_lt tf 4611686018427387904 then Ok (record { ta = ta; tb = of_nanos tb.sec tb.nanos; te = of_nanos te.sec te.nanos; tf = tf }) else Err why.Range
+stamp_within ta tb te tf = if nat_lt ta count_limit && nat_lt tb.sec second_limit && nat_lt te.sec second_limit && nat_lt tf count_limit then Ok (record { ta = ta; tb = of_nanos tb.sec tb.nanos; te = of_nanos te.sec te.nanos; tf = tf }) else Err why.Range
 
 -- a counter, two times and a counter
 abbrev pub stamp_of_numbers : Option ℕ → Option Written → Option Written → Option ℕ → Result Stamp Why

@@ -52,14 +52,14 @@ pub fn accept(prev: Option<&Stamp>, s: &Stamp, freq: u64) -> Result<(), Refused>
     if s.ta >= s.tf {
         return Err(Refused::Backward);
     }
-    if s.te.grains() < s.tb.grains() {
+    if s.te < s.tb {
         return Err(Refused::ServerBackward);
     }
     if let Some(p) = prev {
         if s.ta <= p.tf {
             return Err(Refused::Overlap);
         }
-        if s.tb.grains() < p.te.grains() {
+        if s.tb < p.te {
             return Err(Refused::ServerOld);
         }
     }

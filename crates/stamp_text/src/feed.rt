@@ -13,6 +13,12 @@ use std::marker::Model;
 /// The most bytes of a line without its line feed.
 const MOST: usize = 255;
 
+/// The least nominal frequency, in Hz.
+const LEAST_FREQ: u64 = 1_000_000;
+
+/// The greatest nominal frequency, in Hz.
+const GREATEST_FREQ: u64 = 16_000_000_000;
+
 /// A reader at some place in a stamp file. It keeps how many lines have ended, the bytes of the
 /// line that has not, and the fault that it found.
 #[derive(Drop)]
@@ -28,6 +34,12 @@ impl Model for Feed {
     ghost Value = { Kept };
 
     ghost view = { λ f. record { ended = f.ended; line = f.line.items; fault = f.fault } };
+}
+
+impl Default for Feed {
+    fn default() -> Feed {
+        Feed::new()
+    }
 }
 
 fn without_return(line: &[u8]) -> &[u8]
@@ -49,11 +61,9 @@ fn version_said(line: &[u8]) -> Result<Option<Line>, Why>
 fn freq_said(line: &[u8]) -> Result<Option<Line>, Why>
     ensures { result ≡ freq_says line.now }
 {
-    let Some(digits) = line.strip_prefix(b"freq ") else {
-        return Err(Why::Freq);
-    };
+    let digits = line.strip_prefix(b"freq ").ok_or(Why::Freq)?;
     match number_of(digits) {
-        Some(freq) if 1_000_000 <= freq && freq <= 16_000_000_000 => {
+        Some(freq) if LEAST_FREQ <= freq && freq <= GREATEST_FREQ => {
             Ok(Some(Line::Head(Head { version: 1, freq })))
         }
         _ => Err(Why::Freq),
@@ -66,10 +76,8 @@ fn entry_said(line: u64, text: &[u8]) -> Result<Option<Line>, Why>
     if text.is_empty() || text[0] == b'#' {
         return Ok(None);
     }
-    match stamp_of(text) {
-        Ok(stamp) => Ok(Some(Line::Stamp { line, stamp })),
-        Err(why) => Err(why),
-    }
+    let stamp = stamp_of(text)?;
+    Ok(Some(Line::Stamp { line, stamp }))
 }
 
 fn text_said(line: u64, text: &[u8]) -> Result<Option<Line>, Why>
@@ -92,7 +100,7 @@ fn line_said(line: u64, bytes: &[u8]) -> Result<Option<Line>, Why>
 impl Feed {
     ghost use Rattle.stamp_text.specs.Kept.{StandsFor, AnswersByte, AnswersEnd, IsFaultOfAll};
     ghost use Rattle.stamp_text.specs.declared.lines.LineFault.{LineFault};
-    ghost use Rattle.stamp_text.specs.Steps.{step_answer, step_kept, last_answer};
+    ghost use Rattle.stamp_text.specs.FeedSteps.{step_answer, step_kept, last_answer};
 
     /// A reader at the start of a file.
     pub fn new() -> Feed
@@ -110,14 +118,18 @@ impl Feed {
     /// long, and again at each later byte. It is then the first fault of each file that begins with
     /// the bytes so far.
     pub fn byte(&mut self, b: u8) -> Result<Option<Line>, LineFault>
-        ensures answer { (text : List ℕ) → length text < 2 ^ 62 → StandsFor self.old text → AnswersByte text b result }
-        ensures after { (text : List ℕ) → length text < 2 ^ 62 → StandsFor self.old text → StandsFor self.new (text ++ b ∷ []) }
-        ensures refused { IfErr result (λ fault. (text : List ℕ) → length text < 2 ^ 62 → StandsFor self.old text → IsFaultOfAll (text ++ b ∷ []) fault) }
+        ensures answer { (text : List ℕ) → length text < 2 ^ 62 → StandsFor self.old text →
+            AnswersByte text b result }
+        ensures after { (text : List ℕ) → length text < 2 ^ 62 → StandsFor self.old text →
+            StandsFor self.new (text ++ b ∷ []) }
+        ensures refused { IfErr result (λ fault. (text : List ℕ) →
+            length text < 2 ^ 62 → StandsFor self.old text → IsFaultOfAll (text ++ b ∷ []) fault) }
         ensures ranges { IfOk result (λ line. IfSome line IsLineInRange) }
 
         // A fault is kept, and answered again.
         ensures kept { IfErr result (λ fault. self.new.fault ≡ Some fault) }
-        ensures again { (fault : LineFault) → self.old.fault ≡ Some fault → (result ≡ Err fault) × (self.new ≡ self.old) }
+        ensures again { (fault : LineFault) → self.old.fault ≡ Some fault →
+            (result ≡ Err fault) × (self.new ≡ self.old) }
     {
         self.step(b)
     }
@@ -141,7 +153,7 @@ impl Feed {
         answer
     }
 
-    #[tactic(auto, unfolding(crate::specs::Steps::step_answer))]
+    #[tactic(auto, unfolding(crate::specs::FeedSteps::step_answer))]
     fn answer(&self, b: u8) -> Result<Option<Line>, LineFault>
         ensures answer { result ≡ step_answer self.now b }
         ensures room { OnOk result (b ≢ 10 → length self.now.line < 255) }
@@ -151,10 +163,7 @@ impl Feed {
         }
         let line = self.ended.saturating_add(1);
         if b == b'\n' {
-            return match line_said(line, self.line.as_slice()) {
-                Ok(given) => Ok(given),
-                Err(why) => Err(LineFault { line, why }),
-            };
+            return line_said(line, self.line.as_slice()).map_err(|why| LineFault { line, why });
         }
         if self.line.is_full() {
             return Err(LineFault {
@@ -168,14 +177,15 @@ impl Feed {
     /// Ends the file, and answers its last line where that has no line feed and carries the head or
     /// a stamp. The answer is a fault exactly where the file is not in the grammar.
     pub fn end(self) -> Result<Option<Line>, LineFault>
-        ensures answer { (text : List ℕ) → length text < 2 ^ 62 → StandsFor self text → AnswersEnd text result }
+        ensures answer { (text : List ℕ) → length text < 2 ^ 62 → StandsFor self text →
+            AnswersEnd text result }
         ensures ranges { IfOk result (λ line. IfSome line IsLineInRange) }
         ensures again { (fault : LineFault) → self.fault ≡ Some fault → result ≡ Err fault }
     {
         self.last()
     }
 
-    #[tactic(auto, unfolding(crate::specs::Steps::last_answer))]
+    #[tactic(auto, unfolding(crate::specs::FeedSteps::last_answer))]
     fn last(&self) -> Result<Option<Line>, LineFault>
         ensures { result ≡ last_answer self.now }
     {
@@ -196,18 +206,13 @@ impl Feed {
                 _ => Ok(None),
             };
         }
-        match line_said(line, self.line.as_slice()) {
-            Ok(given) => {
-                if line == 1 {
-                    Err(LineFault {
-                        line: 2,
-                        why: Why::Freq,
-                    })
-                } else {
-                    Ok(given)
-                }
-            }
-            Err(why) => Err(LineFault { line, why }),
+        let given = line_said(line, self.line.as_slice()).map_err(|why| LineFault { line, why })?;
+        if line == 1 {
+            return Err(LineFault {
+                line: 2,
+                why: Why::Freq,
+            });
         }
+        Ok(given)
     }
 }

@@ -5,6 +5,7 @@
 mod accepts;
 mod cuts;
 mod feed;
+mod laws;
 mod lines;
 mod numbers;
 mod stamps;
@@ -13,5 +14,6 @@ mod tests;
 
 pub use accepts::{Refused, accept};
 pub use feed::Feed;
+pub use laws::{accepted_stamps_follow, accepted_stamps_go_on, accepted_stamps_grow};
 pub use lines::{Head, Line, LineFault, Stamp, Why};
 pub use numbers::number_of;

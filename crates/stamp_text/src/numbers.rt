@@ -32,12 +32,7 @@ fn value_of(digits: &[u8]) -> u64
 fn has_digits_alone(text: &[u8]) -> bool
     ensures { result ≡ all_digits text.now }
 {
-    for b in text {
-        if !b.is_ascii_digit() {
-            return false;
-        }
-    }
-    true
+    text.iter().all(u8::is_ascii_digit)
 }
 
 /// The number that a text is: `0`, or a digit from 1 to 9 followed by digits. A number from 2^64 on is
@@ -46,16 +41,9 @@ pub fn number_of(text: &[u8]) -> Option<u64>
     ensures { result ≡ option_map (λ n. min n (2 ^ 64 - 1)) (number_in text.now) }
 {
     match text {
-        [] => None,
         [b'0'] => Some(0),
-        [b'0', ..] => None,
-        _ => {
-            if has_digits_alone(text) {
-                Some(value_of(text))
-            } else {
-                None
-            }
-        }
+        [b'1'..=b'9', ..] if has_digits_alone(text) => Some(value_of(text)),
+        _ => None,
     }
 }
 

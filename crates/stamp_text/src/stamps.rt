@@ -51,7 +51,8 @@ fn stamp_of_numbers(
 }
 
 fn stamp_of_texts(a: &[u8], b: &[u8], c: &[u8], d: &[u8]) -> Result<Stamp, Why>
-    ensures { result ≡ stamp_of_numbers (number_in a.now) (time_in b.now) (time_in c.now) (number_in d.now) }
+    ensures { result ≡
+        stamp_of_numbers (number_in a.now) (time_in b.now) (time_in c.now) (number_in d.now) }
 {
     stamp_of_numbers(number_of(a), time_of(b), time_of(c), number_of(d))
 }
@@ -67,7 +68,9 @@ fn stamp_of_four(a: &[u8], b: &[u8], c: &[u8], d: &[u8]) -> Result<Stamp, Why>
 
 // The first piece of a line, and what stands behind its space, if it has one.
 fn cut_piece(text: &[u8]) -> Option<(&[u8], &[u8])>
-    ensures { MatchOption result (pieces_of text.now ≡ text.now ∷ []) (λ p. pieces_of text.now ≡ p.0.now ∷ pieces_of p.1.now) }
+    ensures { MatchOption result
+        (pieces_of text.now ≡ text.now ∷ [])
+        (λ p. pieces_of text.now ≡ p.0.now ∷ pieces_of p.1.now) }
 {
     cut_at(text, b' ')
 }
@@ -77,15 +80,9 @@ fn cut_piece(text: &[u8]) -> Option<(&[u8], &[u8])>
 pub fn stamp_of(line: &[u8]) -> Result<Stamp, Why>
     ensures { result ≡ stamp_in line.now }
 {
-    let Some((a, rest)) = cut_piece(line) else {
-        return Err(Why::Columns);
-    };
-    let Some((b, rest)) = cut_piece(rest) else {
-        return Err(Why::Columns);
-    };
-    let Some((c, rest)) = cut_piece(rest) else {
-        return Err(Why::Columns);
-    };
+    let (a, rest) = cut_piece(line).ok_or(Why::Columns)?;
+    let (b, rest) = cut_piece(rest).ok_or(Why::Columns)?;
+    let (c, rest) = cut_piece(rest).ok_or(Why::Columns)?;
     match cut_piece(rest) {
         None => stamp_of_four(a, b, c, rest),
         Some(_) => Err(Why::Columns),

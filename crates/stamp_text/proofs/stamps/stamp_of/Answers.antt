@@ -1,7 +1,9 @@
 use Rattle.stamp_text.proofs.StampLaws.{five_pieces}
 use Rattle.stamp_text.proofs.stamps.stamp_of.Goals as goal
 
-pub returns-in-Some-cut_piece-3 : goal.returns-in-Some-cut_piece-3
-returns-in-Some-cut_piece-3 c =
-    let fourth = c.in-Some-cut_piece-3 in
-    five_pieces c.args.line.now c.in-Some.rest.now c.in-Some-cut_piece.rest.now c.in-Some-cut_piece-2.rest.now fourth.field-0.1.now c.in-Some.ensures c.in-Some-cut_piece.ensures c.in-Some-cut_piece-2.ensures fourth.ensures
+pub returns-in-Some : goal.returns-in-Some
+returns-in-Some c =
+    let first = rw c.in_ok-a.ensures.ok_part at c.cut_piece.ensures in
+    let second = rw c.in_ok-b.ensures.ok_part at c.cut_piece-2.ensures in
+    let third = rw c.in_ok-c.ensures.ok_part at c.cut_piece-3.ensures in
+    five_pieces c.args.line.now c.in_ok-a.rest.now c.in_ok-b.rest.now c.in_ok-c.rest.now c.in-Some.field-0.1.now first second third c.in-Some.ensures

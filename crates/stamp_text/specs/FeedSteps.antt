@@ -1,5 +1,7 @@
--- What a reader does with a byte, by what it keeps alone.
+-- What a reader does with a byte and with the end, by what it keeps alone. No public clause cites this:
+-- it is a step of the proof that a reader answers what the grammar says of the text.
 use Rattle.std.specs.Prelude.{ℕ, ◌+◌, ◌-◌, ◌^◌, min, List, [], ◌∷◌, ◌++◌, length, if◌then◌else◌, ◌==◌, Option, None, Some, Result, Ok, Err}
+use Rattle.stamp_text.specs.Format.{line_feed, line_limit}
 use Rattle.stamp_text.specs.Kept.{Kept}
 use Rattle.stamp_text.specs.Grammar.{short_says, missing}
 use Rattle.stamp_text.specs.declared.lines.Line.{Line}
@@ -17,7 +19,7 @@ at_line n (Err w) = Err (record { line = n; why = w })
 
 -- where no fault was found before
 abbrev pub sound_answer : ℕ → List ℕ → ℕ → Result (Option Line) LineFault
-sound_answer n line b = if b == 10 then at_line n (short_says n line) else if length line == 255 then Err (record { line = n; why = why.LongLine }) else Ok None
+sound_answer n line b = if b == line_feed then at_line n (short_says n line) else if length line == line_limit then Err (record { line = n; why = why.LongLine }) else Ok None
 
 abbrev pub unless_faulty : Option LineFault → Result (Option Line) LineFault → Result (Option Line) LineFault
 unless_faulty None answer = answer
@@ -27,7 +29,7 @@ unfoldable pub step_answer : Kept → ℕ → Result (Option Line) LineFault
 step_answer k b = unless_faulty k.fault (sound_answer (line_number k.ended) k.line b)
 
 abbrev pub step_kept : Kept → ℕ → Result (Option Line) LineFault → Kept
-step_kept k b (Ok o) = if b == 10 then record { ended = line_number k.ended; line = []; fault = k.fault } else record k { line = k.line ++ b ∷ [] }
+step_kept k b (Ok o) = if b == line_feed then record { ended = line_number k.ended; line = []; fault = k.fault } else record k { line = k.line ++ b ∷ [] }
 step_kept k b (Err f) = record k { fault = Some f }
 
 abbrev pub second_line : ℕ → Result (Option Line) LineFault → Result (Option Line) LineFault
