@@ -20,7 +20,11 @@ rate_error rate = max (rate.high - rate.period) (rate.period - rate.low)
 
 -- the rate where only the frequency is known
 abbrev pub nominal_rate : ℕ → Rate
-nominal_rate freq = record { period = nominal_period freq; low = lowest_period freq; high = highest_period freq }
+nominal_rate freq = record {
+  period = nominal_period freq;
+  low = lowest_period freq;
+  high = highest_period freq;
+}
 
 -- the grains from one stamp to a later one, by both of the server's times together
 abbrev pub grains_between : Stamp → Stamp → ℕ
@@ -34,11 +38,15 @@ counts_between j k = (k.ta - j.ta) + (k.tf - j.tf)
 abbrev pub nearest_period : ℕ → ℕ → ℕ
 nearest_period freq x = max (lowest_period freq) (min (highest_period freq) x)
 
+-- both round trips together
+abbrev pub trips_of : Stamp → Stamp → ℕ
+trips_of j k = trip j + trip k
+
 -- the rate by two accepted stamps, j before k. The server's times may lie anywhere in their round
 -- trips, so the counts may be too few or too many by both trips together
 unfoldable pub rate_of : Stamp → Stamp → ℕ → Rate
 rate_of j k freq = record {
   period = nearest_period freq (grains_between j k / counts_between j k);
-  low = nearest_period freq (grains_between j k / (counts_between j k + (trip j + trip k)));
-  high = nearest_period freq (div_ceil (grains_between j k) (counts_between j k - (trip j + trip k)));
+  low = nearest_period freq (grains_between j k / (counts_between j k + trips_of j k));
+  high = nearest_period freq (div_ceil (grains_between j k) (counts_between j k - trips_of j k));
 }
