@@ -32,7 +32,7 @@ took_more left faults pull size old mid new text room filled n consumes cause to
 pub wrote_nothing : {K : Type 0} (written : K → Option (List ℕ)) (faults : K → ℕ) (push : K → List ℕ → Result (Unit {0}) Failed → K → Type 0) (old : K) → Wrote written faults push old [] old
 wrote_nothing written faults push old = record { pushes = no_push; bytes = Appends-nil (written old); same = refl }
 
-concat-push : (pieces : List (List ℕ)) (piece : List ℕ) → concat (pieces ++ piece ∷ []) ≡ concat pieces ++ piece
+pub concat-push : (pieces : List (List ℕ)) (piece : List ℕ) → concat (pieces ++ piece ∷ []) ≡ concat pieces ++ piece
 concat-push pieces piece = concat-append pieces (piece ∷ []) ∙ ap (λ (bs : List ℕ). concat pieces ++ bs) (append-nil piece)
 
 -- one more piece

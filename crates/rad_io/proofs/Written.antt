@@ -25,7 +25,7 @@ pub passed_none : {W E : Type 0} (written : W → Option (List ℕ)) (writes : W
 passed_none written writes old piece = record { taken = no_write; front = []; cut = refl; bytes = Appends-nil (written old) }
 
 -- the part of a slice from an index on
-rest_from : (bs : List ℕ) (at : ℕ) → take (length bs - at) (drop at bs) ≡ drop at bs
+pub rest_from : (bs : List ℕ) (at : ℕ) → take (length bs - at) (drop at bs) ≡ drop at bs
 rest_from bs at = grind (arith, common_steps)
 
 took_some : {E : Type 0} (answer : Result ℕ E) (before now n : ℕ) → Settles TakesNothing answer before now (Ok n) → 0 < n

@@ -5,3 +5,4 @@ pub mod Memory
 pub mod Streams
 pub mod Pulls
 pub mod Pushes
+pub mod Blocks

@@ -2,6 +2,7 @@
 //! count of its faults.
 #![tactic(auto)]
 
+mod blocks;
 mod calls;
 mod memory;
 mod sink;
@@ -10,6 +11,7 @@ mod streams;
 #[cfg(test)]
 mod tests;
 
+pub use blocks::{BLOCK, BlockSink};
 pub use calls::{Reader, Writer};
 pub use memory::{MemSink, MemSource};
 pub use sink::Sink;

@@ -1,10 +1,13 @@
 -- What follows from how a run ends.
-use Rattle.std.proofs.Common.{◌≡◌, ◌⊎◌, ℕ, ◌≤◌, Bool, true, false, List, [], ◌++◌, Option, None, Some, Result, length, refl, sym, ap, ◌∙◌, subst, arith, append-nil, inl, inr}
+use Rattle.std.proofs.Common.{◌≡◌, ◌⊎◌, ℕ, ◌≤◌, Bool, true, false, List, [], ◌++◌, Option, None, Some, Result, Ok, Err, OnOk, OnErr, length, refl, sym, ap, ◌∙◌, subst, arith, append-nil, inl, inr}
 use Rattle.std.specs.List.{concat}
 use Rattle.std.specs.Option.{option_map}
 use Rattle.std.specs.Io.KnownBytes.{Appends, Consumes, IsAtEnd}
+use Rattle.rad_io.specs.Blocks.{Gathering, IsFresh, BlockGives, Closes}
 use Rattle.rad_io.specs.Causes.{Rose}
+use Rattle.rad_io.specs.Pushes.{Wrote, Broke, Writes}
 use Rattle.rad_io.specs.declared.Failed.{Failed}
+use Rattle.rad_io.proofs.InBlocks.{wrote-in-blocks, broke-in-blocks}
 use Rattle.stamp_text.specs.Grammar.{given_of_file, fault_of_file}
 use Rattle.stamp_text.specs.declared.lines.LineFault.{LineFault}
 use Rattle.report_text.specs.declared.lines.Limit.TheVariants as limit
@@ -13,7 +16,7 @@ use Rattle.clock_words.specs.declared.commands.Command.TheVariants as command
 use Rattle.clock_words.specs.declared.commands.Report.{Report}
 use Rattle.radclock.specs.Inputs.{stamps_in, takes_few, accepted_among, accepts_many, stop_by, first_stop, stop_of_file, freq_of_file, stamps_of_file}
 use Rattle.radclock.specs.Readings.{StopsInPiece, StopsAtEnd, Stops}
-use Rattle.radclock.specs.Runs.{Comes, no_line, no_memory, made, stopped, read, Ends, WasDone, reported, filed, WasFree}
+use Rattle.radclock.specs.Runs.{Comes, no_line, no_memory, made, stopped, read, EndsWith, Ends, EndsInBlocks, WasDone, reported, filed, WasFree}
 use Rattle.radclock.specs.Statuses.{status_of, status_by}
 use Rattle.radclock.specs.declared.inputs.Stop.{Stop}
 use Rattle.radclock.specs.declared.inputs.Stop.TheVariants as stop
@@ -162,3 +165,33 @@ done-by left pull_faults pull written push_faults push words source source' sink
       | inl whole ↦ done-of left pull_faults pull words source source' (written sink) (written sink') ends.due ends.lines ends.comes (sym whole.0 ∙ is) whole.1.bytes
       | inr broken ↦ let not = broken.0 in absurd (cc)
     ]
+
+module _ {S K : Type 0} (left : S → Option (List ℕ)) (pull_faults : S → ℕ) (pull : S → List ℕ → Result ℕ Failed → List ℕ → S → Type 0) (written : K → Option (List ℕ)) (push_faults : K → ℕ) (push : K → List ℕ → Result (Unit {0}) Failed → K → Type 0) (words : List (List ℕ)) (source source' : S) (sink sink' : K) (result : Status) where
+  -- what is pushed in blocks ends as what is pushed line by line
+  blocks-end : (blocks : List (List ℕ)) (due ended : Status) (last : Result (Unit {0}) Failed) → OnOk last (result ≡ ended) → OnErr last (result ≡ status.WriteFault) → ended ≡ due → Writes written push_faults push sink blocks last sink' → EndsWith written push_faults push sink blocks due result sink'
+  blocks-end blocks due ended (Ok o) ok err is wrote = inl (ok ∙ is, wrote)
+  blocks-end blocks due ended (Err e) ok err is broke = inr (err, broke)
+
+  broken-end : (ended : Status) (last : Result (Unit {0}) Failed) → OnOk last (result ≡ ended) → OnErr last (result ≡ status.WriteFault) → ended ≡ status.WriteFault → result ≡ status.WriteFault
+  broken-end ended (Ok o) ok err is = ok ∙ is
+  broken-end ended (Err e) ok err is = err
+
+  pub ends-in-blocks : (told : Gathering K → Option (List ℕ)) (counted : Gathering K → ℕ) (old mid : Gathering K) (ended : Status) (last : Result (Unit {0}) Failed) → IsFresh sink old
+      → Ends left pull_faults pull told counted (BlockGives written push_faults push) words source source' old mid ended → Closes written push_faults push mid last sink' → OnOk last (result ≡ ended) → OnErr last (result ≡ status.WriteFault)
+      → EndsInBlocks left pull_faults pull written push_faults push words source source' sink sink' result
+  ends-in-blocks told counted old mid ended last fresh ends closes ok err =
+      elim ends.ends [
+        | inl whole ↦
+            let in_blocks = wrote-in-blocks written push_faults push told counted sink old mid ends.lines last sink' fresh whole.1 closes in
+            record { due = ends.due; lines = ends.lines; comes = ends.comes; blocks = in_blocks.blocks; bytes = in_blocks.bytes; ends = blocks-end in_blocks.blocks ends.due ended last ok err whole.0 in_blocks.writes }
+        | inr broken ↦
+            let in_blocks = broke-in-blocks written push_faults push told counted sink old mid ends.lines last sink' fresh broken.1 closes in
+            record { due = ends.due; lines = ends.lines; comes = ends.comes; blocks = in_blocks.blocks; bytes = in_blocks.bytes; ends = inr (broken-end ended last ok err broken.0, in_blocks.writes) }
+      ]
+
+  pub done-in-blocks : EndsInBlocks left pull_faults pull written push_faults push words source source' sink sink' result → result ≡ status.Done → WasDone (left source) (left source') (written sink) (written sink') words
+  done-in-blocks ends is =
+      elim ends.ends [
+        | inl whole ↦ done-of left pull_faults pull words source source' (written sink) (written sink') ends.due ends.lines ends.comes (sym whole.0 ∙ is) (subst (Appends (written sink) (written sink')) ends.bytes whole.1.bytes)
+        | inr broken ↦ let not = broken.0 in absurd (cc)
+      ]

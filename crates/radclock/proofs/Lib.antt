@@ -11,3 +11,4 @@ pub mod Counted
 pub mod Ticking
 pub mod Filing
 pub mod Playing
+pub mod Told

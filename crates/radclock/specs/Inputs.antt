@@ -1,8 +1,8 @@
 -- What an input says, and where it is not read further.
-use Rattle.std.specs.Prelude.{◌≡◌, ℕ, ◌≤◌, Bool, true, false, ◌&&◌, List, [], ◌∷◌, length, take, if◌then◌else◌, nat_lt, Option, None, Some}
+use Rattle.std.specs.Prelude.{◌≡◌, ℕ, ◌≤◌, Bool, true, false, ◌&&◌, List, [], ◌∷◌, length, map, take, if◌then◌else◌, nat_lt, Option, None, Some}
 use Rattle.std.specs.List.{All}
 use Rattle.std.specs.Option.{option_map}
-use Rattle.stamp_text.specs.Accepted.{IsInRange, accept_of, accepted_with, last_of}
+use Rattle.stamp_text.specs.Accepted.{IsInRange, accepted_all}
 use Rattle.stamp_text.specs.Grammar.{given, given_of_file, fault_so_far, fault_of_file}
 use Rattle.stamp_text.specs.declared.lines.Line.{Line}
 use Rattle.stamp_text.specs.declared.lines.Line.TheVariants as gives
@@ -49,8 +49,7 @@ freq_after freq (gives.Stamp n s ∷ lines) = freq_after freq lines
 -- the accepted stamps behind accepted ones, with those among stamp lines: each is tested against the
 -- last accepted one
 abbrev pub accepted_among : ℕ → List Stamp → List StampLine → List Stamp
-accepted_among freq accepted [] = accepted
-accepted_among freq accepted (x ∷ xs) = accepted_among freq (accepted_with accepted x.stamp (accept_of (last_of accepted) x.stamp freq)) xs
+accepted_among freq accepted stamps = accepted_all freq accepted (map (λ x. x.stamp) stamps)
 
 -- accepted stamps are limited, and lines pass this limit. The stamp that passes the limit on stamps
 -- is not tested.

@@ -1,6 +1,7 @@
 pub mod Inputs
 pub mod Readings
 pub mod Reports
+pub mod Tellings
 pub mod Gathered
 pub mod Journals
 pub mod Tallies

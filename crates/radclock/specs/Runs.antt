@@ -45,6 +45,15 @@ pub record Ends {S K : Type 0} (left : S → Option (List ℕ)) (pull_faults : S
   pub comes : Comes left pull_faults pull words source source' due lines
   pub ends : EndsWith written push_faults push sink lines due result sink'
 
+-- the whole run whose lines are pushed in blocks
+pub record EndsInBlocks {S K : Type 0} (left : S → Option (List ℕ)) (pull_faults : S → ℕ) (pull : S → List ℕ → Result ℕ Failed → List ℕ → S → Type 0) (written : K → Option (List ℕ)) (push_faults : K → ℕ) (push : K → List ℕ → Result (Unit {0}) Failed → K → Type 0) (words : List (List ℕ)) (source source' : S) (sink sink' : K) (result : Status) : Type 0 where
+  pub due : Status
+  pub lines : List (List ℕ)
+  pub comes : Comes left pull_faults pull words source source' due lines
+  pub blocks : List (List ℕ)
+  pub bytes : concat blocks ≡ concat lines
+  pub ends : EndsWith written push_faults push sink blocks due result sink'
+
 -- the input was read to its end, its text is in the grammar and within the limits, and this report
 -- on it was appended
 pub record WasRead (left left' written written' : Option (List ℕ)) (r : Report) : Type 0 where

@@ -2,7 +2,8 @@
 //! words ask for to standard output.
 #![tactic(auto)]
 
-ghost use Rattle.std.specs.Prelude.{◌≡◌, OnOk, OnErr};
+ghost use Rattle.std.specs.Prelude.{◌≡◌, drop, IfOk, OnErr};
+ghost use Rattle.radclock.specs.Statuses.{code_of};
 
 mod bases;
 mod estimates;
@@ -10,8 +11,7 @@ mod gather;
 mod inputs;
 mod journal;
 mod make;
-#[cfg(test)]
-mod plain;
+mod output;
 mod plays;
 mod reading;
 mod reports;
@@ -23,14 +23,14 @@ mod tests;
 mod ticks;
 
 use ff_grain::NoMemory;
+pub use output::run_in_blocks;
 use rad_io::{StdSink, StdSource};
 pub use run::run;
 pub use status::Status;
-use std::io::{BufWriter, Write};
 use std::process::ExitCode;
 use std::{env, io};
 
-// The words after the program's name. A word that is not text makes a list that is no line.
+// All words, of which the first is the program's name. A word that is not text makes a list of none.
 fn owned_words<R: std::rt::Env + AllocGlobal>(rt: &R) -> Result<Vec<String>, NoMemory> {
     let mut words = Vec::new(rt.alloc());
     let args = match env::args(rt) {
@@ -42,47 +42,45 @@ fn owned_words<R: std::rt::Env + AllocGlobal>(rt: &R) -> Result<Vec<String>, NoM
             };
         }
     };
-    for word in args.skip(1) {
+    for word in args {
         words.push(word)?;
     }
     Ok(words)
 }
 
-/// The bytes of output that are gathered before they are written.
-const BLOCK: usize = 65_536;
-
-// How a run ended, whose output was then written out.
-fn ended(status: Status, written: io::Result<()>) -> Status
-    ensures ok { OnOk written (result ≡ status) }
-    ensures err { OnErr written (result ≡ Status.WriteFault) }
+// The words behind the program's name.
+fn words_behind(words: &[String]) -> &[String]
+    ensures { result.now ≡ drop 1 words.now }
 {
-    match written {
-        Ok(()) => status,
-        Err(_) => Status::WriteFault,
+    match words {
+        [] => words,
+        [_, behind @ ..] => behind,
     }
 }
 
-fn run_with(rt: &HostRuntime, owned: &[String]) -> Result<Status, NoMemory> {
+// The exit status of a run, or where memory for it was wanting.
+fn code_of_run(run: Result<Status, NoMemory>) -> u8
+    ensures ok { IfOk run (λ status. result ≡ code_of status) }
+    ensures err { OnErr run (result ≡ 5) }
+{
+    match run {
+        Ok(status) => status.code(),
+        Err(NoMemory) => Status::NoMemory.code(),
+    }
+}
+
+fn run_with(rt: &HostRuntime) -> Result<Status, NoMemory> {
+    let owned = owned_words(rt)?;
     let mut words = Vec::new(rt.alloc());
-    for word in owned {
+    for word in words_behind(&owned) {
         words.push(word.as_str())?;
     }
-    let Ok(mut output) = BufWriter::with_capacity(rt.alloc(), BLOCK, io::writer(rt)) else {
-        return Err(NoMemory);
-    };
     let mut source = StdSource::new(rt.reader());
-    let mut sink = StdSink::new(&mut output);
-    let status = run(rt.alloc(), &words, &mut source, &mut sink);
-    Ok(ended(status, output.flush()))
+    let sink = StdSink::new(io::writer(rt));
+    let (status, _) = run_in_blocks(rt.alloc(), &words, &mut source, sink)?;
+    Ok(status)
 }
 
 fn main(rt: HostRuntime) -> ExitCode {
-    let status = match owned_words(&rt) {
-        Ok(owned) => run_with(&rt, &owned),
-        Err(NoMemory) => Err(NoMemory),
-    };
-    match status {
-        Ok(status) => ExitCode::from(status.code()),
-        Err(NoMemory) => ExitCode::from(Status::NoMemory.code()),
-    }
+    ExitCode::from(code_of_run(run_with(&rt)))
 }

@@ -4,7 +4,8 @@ ghost use Rattle.rad_io.specs.Pushes.{Writes};
 ghost use Rattle.stamp_text.specs.Accepted.{IsInRange, accept_of, accepted_with, last_of};
 ghost use Rattle.stamp_text.specs.declared.lines.Stamp.{Stamp};
 ghost use Rattle.radclock.specs.Inputs.{IsRanged};
-ghost use Rattle.radclock.specs.Reports.{report, outcomes, told_of, IsNext};
+ghost use Rattle.radclock.specs.Reports.{outcomes};
+ghost use Rattle.radclock.specs.Tellings.{report, told_of, IsNext};
 ghost use Rattle.radclock.specs.Tallies.{StandsAt, Counts};
 
 use crate::inputs::{StampFile, StampLine};

@@ -7,7 +7,8 @@ ghost use Rattle.clock_words.specs.declared.commands.Report.{Report};
 ghost use Rattle.radclock.specs.Inputs.{IsRanged, stop_of_file, takes_few};
 ghost use Rattle.stamp_maker.specs.MadeStamps.{made_list};
 ghost use Rattle.report_text.specs.MadeFiles.{file_lines_of};
-ghost use Rattle.radclock.specs.Reports.{report, outcomes, report_of, ticks_text};
+ghost use Rattle.radclock.specs.Reports.{outcomes, report_of, ticks_text};
+ghost use Rattle.radclock.specs.Tellings.{report};
 ghost use Rattle.radclock.specs.Runs.{Ends, EndsWith, Finishes, WasDone, WasFree};
 ghost use Rattle.radclock.specs.Statuses.{status_by};
 

@@ -7,7 +7,8 @@ use Rattle.stamp_text.specs.Accepted.{accept_of, accepted_with}
 use Rattle.report_text.specs.Text.{head_text, end_text}
 use Rattle.report_text.specs.declared.lines.EndCounts.{EndCounts}
 use Rattle.radclock.specs.declared.inputs.StampLine.{StampLine}
-use Rattle.radclock.specs.Reports.{Outcome, report, outcomes, told, told_of}
+use Rattle.radclock.specs.Reports.{Outcome, outcomes}
+use Rattle.radclock.specs.Tellings.{report, told, told_of}
 use Rattle.radclock.proofs.Progress.{answer_to, lines-next, count-next, next-whole, counted, one-answer, lines-done, count-done}
 use Rattle.radclock.proofs.reports.push_report.Goals as goal
 

@@ -1,4 +1,0 @@
-use Rattle.radclock.proofs.plain.the_daemon_answers_as_its_rules_say.Given as goal
-
-abbrev pub ghosts-compared : goal.ghosts-compared
-ghosts-compared g a = record { name = a.blank.name; parts = a.blank.parts }
