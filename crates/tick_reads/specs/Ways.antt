@@ -1,0 +1,45 @@
+-- How each kind of clock is read from a tick.
+use Rattle.std.specs.Prelude.{ℕ, Bool, true, false}
+use Rattle.ff_hands.specs.declared.hands.Hands.{Hands}
+use Rattle.clock_lines.specs.declared.readings.Kind.{Kind}
+use Rattle.clock_lines.specs.declared.readings.Kind.TheVariants as kind
+use Rattle.clock_lines.specs.declared.readings.Reading.{Reading}
+use Rattle.clock_lines.specs.Values.{value_of, bound_of}
+use Rattle.tick_reads.specs.declared.loads.Ask.{Ask}
+
+-- Whole: at the counter, between two equal turn words. Light: by the mark of the tick alone. Past: by the
+-- tick that was current at a past count
+pub data Way : Type 0 where
+  Whole : Way
+  Light : Way
+  Past : Way
+
+abbrev pub way_of : Kind → Way
+way_of kind.Abs = Whole
+way_of kind.Mono = Whole
+way_of kind.Uptime = Whole
+way_of kind.Fast = Light
+way_of kind.Diff = Light
+way_of kind.Back = Past
+
+-- a full read is over at once where a windup stands open
+abbrev pub needs_even : Way → Bool
+needs_even Whole = true
+needs_even Light = false
+needs_even Past = false
+
+-- the count that is read at, where the counter stood at c
+abbrev pub count_by : Kind → ℕ → Hands → ℕ → ℕ
+count_by kind.Abs given h c = c
+count_by kind.Mono given h c = c
+count_by kind.Uptime given h c = c
+count_by kind.Fast given h c = h.count
+count_by kind.Diff given h c = given
+count_by kind.Back given h c = given
+
+-- the reading of a tick by its hands at a count
+abbrev pub reading_at : Hands → ℕ → Kind → ℕ → Reading
+reading_at h n k count = record { kind = k; tick = n; count = count; time = value_of h k count; bound = bound_of h k count }
+
+abbrev pub reading : Ask → ℕ → Hands → ℕ → Reading
+reading ask tick h c = reading_at h tick ask.kind (count_by ask.kind ask.given h c)
