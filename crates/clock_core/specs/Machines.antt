@@ -1,12 +1,12 @@
 -- The clock of one thread.
-use Rattle.std.specs.Prelude.{ℕ, ◌-◌, ◌<◌, ◌≤◌, nat_lt, nat_le, if◌then◌else◌, ⊤, List, [], ◌∷◌, ◌++◌, length, slice_index_or, Option, None, Some, Result, Ok, Err}
+use Rattle.std.specs.Prelude.{ℕ, ◌-◌, ◌^◌, ◌<◌, ◌≤◌, nat_lt, nat_le, if◌then◌else◌, ⊤, List, [], ◌∷◌, ◌++◌, length, Option, None, Some, Result, Ok, Err}
 use Rattle.ff_hands.specs.Journals.{IsJournal}
-use Rattle.ff_hands.specs.Windups.{cold, wind_of}
+use Rattle.ff_hands.specs.Windups.{wind_of}
 use Rattle.ff_hands.specs.declared.estimates.Estimate.{Estimate}
 use Rattle.ff_hands.specs.declared.hands.Hands.{Hands}
 use Rattle.ff_hands.specs.declared.hands.Order.{Order}
 use Rattle.ff_hands.specs.declared.hands.Order.TheVariants as order
-use Rattle.clock_lines.specs.Values.{value_of, bound_of}
+pub use Rattle.clock_lines.specs.Readings.{newest, reading_at}
 use Rattle.clock_lines.specs.declared.readings.Kind.{Kind}
 use Rattle.clock_lines.specs.declared.readings.Kind.TheVariants as kinds
 use Rattle.clock_lines.specs.declared.readings.Reading.{Reading}
@@ -19,15 +19,11 @@ pub record Machine : Type 0 where
   pub counter : ℕ
   pub spare : ℕ
 
--- the last tick. There always is one
-abbrev pub newest : List Hands → Hands
-newest ticks = slice_index_or ticks (length ticks - 1) cold
-
 -- what every clock has
 pub record Holds (ticks : List Hands) (counter : ℕ) : Type 0 where
   pub journal : IsJournal ticks
   pub reached : (newest ticks).count ≤ counter
-  pub most : counter < 4611686018427387904
+  pub most : counter < 2 ^ 62
 
 -- an estimate may not be of a count that the counter has not reached
 abbrev pub refusal_ahead : ℕ → Estimate → Option Refuse
@@ -59,18 +55,12 @@ ReadsNow kinds.Uptime = ⊤
 ReadsNow kinds.Fast = ⊤
 ReadsNow kinds.Diff = ⊥
 ReadsNow kinds.Back = ⊥
+ReadsNow kinds.Utc = ⊥
 
 -- a fast read is at the tick, and the others are at the counter
 abbrev pub count_of : Kind → ℕ → ℕ → ℕ
-count_of kinds.Abs at counter = counter
-count_of kinds.Mono at counter = counter
-count_of kinds.Uptime at counter = counter
 count_of kinds.Fast at counter = at
-count_of kinds.Diff at counter = counter
-count_of kinds.Back at counter = counter
-
-abbrev pub reading_at : Hands → ℕ → Kind → ℕ → Reading
-reading_at h n k count = record { kind = k; tick = n; count = count; time = value_of h k count; bound = bound_of h k count }
+count_of _ at counter = counter
 
 -- what is read now, by the newest tick
 abbrev pub reading_of : Machine → Kind → Reading

@@ -82,7 +82,7 @@ fn count_of(kind: Kind, at: u64, counter: u64) -> u64
 {
     match kind {
         Kind::Fast => at,
-        Kind::Abs | Kind::Mono | Kind::Uptime | Kind::Diff | Kind::Back => counter,
+        Kind::Abs | Kind::Mono | Kind::Uptime | Kind::Diff | Kind::Back | Kind::Utc => counter,
     }
 }
 
@@ -131,7 +131,10 @@ impl Core {
         ensures reached { result.count ≤ self.now.counter }
         ensures most { self.now.counter < 2 ^ 62 }
     {
-        self.ticks[self.ticks.len() - 1]
+        match self.ticks.last() {
+            Some(h) => *h,
+            None => unreachable!(),
+        }
     }
 
     /// Winds the clock by an order, at the counter. There has to be room for one more tick, and the order

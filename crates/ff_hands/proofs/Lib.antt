@@ -1,3 +1,4 @@
 pub mod Orders
 pub mod Winding
 pub mod Sounding
+pub mod Ticks

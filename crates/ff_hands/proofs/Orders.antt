@@ -1,5 +1,5 @@
 -- What an order has that fits.
-use Rattle.std.proofs.Common.{◌≡◌, ℕ, ◌<◌, ◌≤◌, true, arith}
+use Rattle.std.proofs.Common.{◌≡◌, ℕ, ◌<◌, ◌≤◌, true, arith, ◌^◌}
 use Rattle.std.proofs.lemmas.Bool.{and_parts, ltb-true, leb-true}
 use Rattle.std.proofs.lemmas.Int.{ints}
 use Rattle.ff_hands.specs.Bounds.{IsSane}
@@ -26,7 +26,7 @@ sane-is e h =
 -- the count goes on, and stays below 2^62
 pub record GoesOn (h : Hands) (count : ℕ) : Type 0 where
   pub later : h.count ≤ count
-  pub most : count < 4611686018427387904
+  pub most : count < 2 ^ 62
 
 pub fits-on : (h : Hands) (count : ℕ) (o : Order) → fits h count o ≡ true → GoesOn h count
 fits-on h count o f =

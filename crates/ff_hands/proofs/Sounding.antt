@@ -11,16 +11,20 @@ use Rattle.ff_hands.specs.declared.hands.Hands.{Hands}
 use Rattle.ff_hands.specs.declared.hands.Order.{Order}
 use Rattle.ff_hands.proofs.Winding.{cold-bounded, wind-bounded, order_of-wound, count-wound}
 
--- each tick of a journal is bounded
-pub tick-bounded : (ticks : List Hands) → IsJournal ticks → (n : ℕ) (h : Hands) → slice_get ticks n ≡ Some h → IsBounded h
-tick-bounded ticks is zero h here = let same : cold ≡ h = (let e = sym is.first ∙ here in cc) in subst IsBounded same cold-bounded
-tick-bounded ticks is (suc n) h here =
+-- what the cold hands have and each windup keeps, each tick has
+pub by-ticks : (P : Hands → Type 0) (ticks : List Hands) → IsJournal ticks → P cold → ((h : Hands) (count : ℕ) (o : Order) → P h → fits h count o ≡ true → P (wind_of h count o)) → (n : ℕ) (h : Hands) → slice_get ticks n ≡ Some h → P h
+by-ticks P ticks is first keeps zero h here = let same : cold ≡ h = (let e = sym is.first ∙ here in cc) in subst P same first
+by-ticks P ticks is first keeps (suc n) h here =
     let within : n < length ticks = (let w = slice_get_within ticks (suc n) h here in omega arith) in
     let before : Hands = get_or ticks n cold in
     let there : slice_get ticks n ≡ Some before = slice_get-get_or ticks n cold within in
     let next : slice_get ticks (n + 1) ≡ Some h = (let e : n + 1 ≡ suc n = omega arith in ap (slice_get ticks) e ∙ here) in
     let follows = is.next n before h there next in
-    subst IsBounded (sym follows.wound) (wind-bounded before h.count (order_of h) (tick-bounded ticks is n before there) follows.fits)
+    subst P (sym follows.wound) (keeps before h.count (order_of h) (by-ticks P ticks is first keeps n before there) follows.fits)
+
+-- each tick of a journal is bounded
+pub tick-bounded : (ticks : List Hands) → IsJournal ticks → (n : ℕ) (h : Hands) → slice_get ticks n ≡ Some h → IsBounded h
+tick-bounded ticks is = by-ticks IsBounded ticks is cold-bounded wind-bounded
 
 pub sound-bounded : (h : Hands) → IsSound h → IsBounded h
 sound-bounded h is = tick-bounded is.ticks is.journal (length is.ticks - 1) h is.last
@@ -55,17 +59,20 @@ journal-push ticks h next is last follows =
         let before : n + 1 < length ticks = omega (arith, length_push ticks next) in
         is.next n a b (sym (get-push-left ticks next n (omega arith)) ∙ at) (sym (get-push-left ticks next (n + 1) before) ∙ then)
 
+-- what a windup makes follows, where its order fits
+pub wound-follows : (h : Hands) (count : ℕ) (o : Order) → fits h count o ≡ true → Follows h (wind_of h count o)
+wound-follows h count o f = record {
+  fits = ap₂ (fits h) (count-wound h count o) (order_of-wound h count o) ∙ f;
+  wound = sym (ap₂ (wind_of h) (count-wound h count o) (order_of-wound h count o));
+}
+
 -- one more windup
 pub sound-wound : (h : Hands) (count : ℕ) (o : Order) → IsSound h → fits h count o ≡ true → IsSound (wind_of h count o)
 sound-wound h count o is f =
     let next : Hands = wind_of h count o in
-    let follows : Follows h next = record {
-      fits = ap (fits h next.count) (order_of-wound h count o) ∙ ap (λ n. fits h n o) (count-wound h count o) ∙ f;
-      wound = sym (ap₂ (wind_of h) (count-wound h count o) (order_of-wound h count o));
-    } in
     record {
       ticks = is.ticks ++ next ∷ [];
-      journal = journal-push is.ticks h next is.journal is.last follows;
+      journal = journal-push is.ticks h next is.journal is.last (wound-follows h count o f);
       last = (let e : length (is.ticks ++ next ∷ []) - 1 ≡ length is.ticks = omega (arith, length_push is.ticks next) in ap (slice_get (is.ticks ++ next ∷ [])) e ∙ get-push-last is.ticks next);
     }
 

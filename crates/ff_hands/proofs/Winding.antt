@@ -1,5 +1,5 @@
 -- What a windup keeps.
-use Rattle.std.proofs.Common.{◌≡◌, ◌≢◌, ℕ, ◌+◌, ◌-◌, ◌*◌, ◌/◌, ◌<◌, ◌≤◌, Bool, true, false, cond, ℤ, pos, negsuc, ◌+ℤ◌, ◌-ℤ◌, ◌≤ℤ◌, int_lt, unsigned_abs, min, refl, arith}
+use Rattle.std.proofs.Common.{◌≡◌, ◌≢◌, ℕ, ◌+◌, ◌-◌, ◌*◌, ◌/◌, ◌<◌, ◌≤◌, Bool, true, false, cond, ℤ, pos, negsuc, ◌+ℤ◌, ◌-ℤ◌, ◌≤ℤ◌, int_lt, unsigned_abs, min, refl, arith, ◌^◌}
 use Rattle.std.proofs.Math.Nat.{div-mul-le_self, le_of_mul-le-mul_left, mul-le-mul_left}
 use Rattle.std.proofs.lemmas.Bool.{and_parts, ltb-true, leb-true}
 use Rattle.std.proofs.lemmas.Int.{ints}
@@ -23,8 +23,8 @@ number_of-of_grains (negsuc a) = omega (arith, ints)
 slope : (gap counts period : ℕ) → 0 < counts → 200 * correction gap counts period ≤ period
 slope gap counts period some =
     let c : ℕ = correction gap counts period in
-    let capped : c * counts ≤ min gap (counts * period / 18446744073709551616 * 5000000 * 18446744073) = div-mul-le_self _ counts in
-    let seconds : counts * period / 18446744073709551616 * 18446744073709551616 ≤ counts * period = div-mul-le_self _ 18446744073709551616 in
+    let capped : c * counts ≤ min gap (counts * period / 2 ^ 64 * 5000000 * 18446744073) = div-mul-le_self _ counts in
+    let seconds : counts * period / 2 ^ 64 * 2 ^ 64 ≤ counts * period = div-mul-le_self _ (2 ^ 64) in
     let all : counts * (200 * c) ≤ counts * period = omega arith in
     le_of_mul-le-mul_left all some
 
@@ -39,28 +39,28 @@ sloped false gap counts period some = let s = slope gap counts period some in re
 -- an estimate's time at a count
 record IsTimeOf (e : Estimate) (count : ℕ) : Type 0 where
   low : pos 0 ≤ℤ time_of e count
-  high : time_of e count ≤ℤ pos (649037107316853453566312041152512 + 70368744177664 * count)
-  since : time_of e count ≤ℤ (number_of e.update_time +ℤ pos (70368744177664 * count))
+  high : time_of e count ≤ℤ pos (2 ^ 109 + 2 ^ 46 * count)
+  since : time_of e count ≤ℤ (number_of e.update_time +ℤ pos (2 ^ 46 * count))
   not_before : number_of e.update_time ≤ℤ time_of e count
 
 timed : (e : Estimate) (count : ℕ) → IsSane e → IsTimeOf e count
 timed e count sane =
-    let most : (count - e.update_ffcount) * e.period ≤ (count - e.update_ffcount) * 70368744177664 = mul-le-mul_left (count - e.update_ffcount) (omega (arith, sane.period)) in
+    let most : (count - e.update_ffcount) * e.period ≤ (count - e.update_ffcount) * 2 ^ 46 = mul-le-mul_left (count - e.update_ffcount) (omega (arith, sane.period)) in
     record { low = omega (arith, ints, sane.low); high = omega (arith, ints, sane.high); since = omega (arith, ints); not_before = omega (arith, ints) }
 
 -- the clocks moved on to a count
 record IsMoved (h : Hands) (count : ℕ) : Type 0 where
   time_low : pos 0 ≤ℤ moved_time h count
-  time_high : moved_time h count ≤ℤ pos (649037107316853453566312041152512 + 70368744177664 * count)
+  time_high : moved_time h count ≤ℤ pos (2 ^ 109 + 2 ^ 46 * count)
   lerp_low : pos 0 ≤ℤ moved_lerp h count
-  lerp_high : moved_lerp h count ≤ℤ pos (649037107316853453566312041152512 + 70368744177664 * count)
+  lerp_high : moved_lerp h count ≤ℤ pos (2 ^ 109 + 2 ^ 46 * count)
   uptime_low : number_of h.boot ≤ℤ moved_lerp h count
-  uptime_high : moved_lerp h count ≤ℤ (number_of h.boot +ℤ pos (70368744177664 * count))
+  uptime_high : moved_lerp h count ≤ℤ (number_of h.boot +ℤ pos (2 ^ 46 * count))
 
 moves : (h : Hands) (count : ℕ) → IsBounded h → GoesOn h count → IsMoved h count
 moves h count is on =
-    let time : (count - h.count) * h.est.period ≤ (count - h.count) * 70368744177664 = mul-le-mul_left (count - h.count) (omega (arith, is.period)) in
-    let lerp : (count - h.count) * h.period_lerp ≤ (count - h.count) * 70368744177664 = mul-le-mul_left (count - h.count) (omega (arith, is.period, is.slope_high)) in
+    let time : (count - h.count) * h.est.period ≤ (count - h.count) * 2 ^ 46 = mul-le-mul_left (count - h.count) (omega (arith, is.period)) in
+    let lerp : (count - h.count) * h.period_lerp ≤ (count - h.count) * 2 ^ 46 = mul-le-mul_left (count - h.count) (omega (arith, is.period, is.slope_high)) in
     record {
       time_low = omega (arith, ints, is.time_low);
       time_high = omega (arith, ints, is.time_high, on.later);
@@ -134,7 +134,7 @@ take_jump-bounded h count e is on sane update =
     }
 
 -- all clocks begin anew
-reset-bounded : (count : ℕ) (e : Estimate) → count < 4611686018427387904 → IsSane e → e.update_ffcount ≤ count → IsBounded (reset count e)
+reset-bounded : (count : ℕ) (e : Estimate) → count < 2 ^ 62 → IsSane e → e.update_ffcount ≤ count → IsBounded (reset count e)
 reset-bounded count e most sane update =
     let t = timed e count sane in
     let time = number_of-of_grains (time_of e count) in

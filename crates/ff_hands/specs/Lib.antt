@@ -2,3 +2,4 @@ pub mod Orders
 pub mod Windups
 pub mod Journals
 pub mod Bounds
+pub mod Ranges

@@ -1,5 +1,5 @@
 -- Which orders a clock takes.
-use Rattle.std.specs.Prelude.{ℕ, pos, negsuc, int_lt, int_le, Bool, true, ◌&&◌, nat_lt, nat_le}
+use Rattle.std.specs.Prelude.{ℕ, pos, negsuc, int_lt, int_le, Bool, true, ◌&&◌, nat_lt, nat_le, ◌^◌}
 use Rattle.ff_grain.specs.Grains.{number_of}
 use Rattle.ff_hands.specs.declared.estimates.Estimate.{Estimate}
 use Rattle.ff_hands.specs.declared.hands.Hands.{Hands}
@@ -10,8 +10,8 @@ use Rattle.ff_hands.specs.declared.hands.Order.TheVariants as order
 -- grains
 abbrev pub is_sane_estimate : Estimate → Bool
 is_sane_estimate e =
-    nat_lt e.update_ffcount 4611686018427387904 && nat_lt e.leapsec_next 4611686018427387904 && nat_lt e.period 35184372088832
-    && int_le (negsuc 0) e.leapsec && int_le e.leapsec (pos 1) && int_le (pos 0) (number_of e.update_time) && int_lt (number_of e.update_time) (pos 649037107316853453566312041152512)
+    nat_lt e.update_ffcount (2 ^ 62) && nat_lt e.leapsec_next (2 ^ 62) && nat_lt e.period (2 ^ 45)
+    && int_le (negsuc 0) e.leapsec && int_le e.leapsec (pos 1) && int_le (pos 0) (number_of e.update_time) && int_lt (number_of e.update_time) (pos (2 ^ 109))
 
 abbrev pub is_sane : Order → Bool
 is_sane order.Plain = true
@@ -26,4 +26,4 @@ is_in_time h count (order.Reset e) = nat_le e.update_ffcount count
 
 -- the order is sane, and the count does not go back
 abbrev pub fits : Hands → ℕ → Order → Bool
-fits h count o = is_sane o && nat_le h.count count && nat_lt count 4611686018427387904 && is_in_time h count o
+fits h count o = is_sane o && nat_le h.count count && nat_lt count (2 ^ 62) && is_in_time h count o

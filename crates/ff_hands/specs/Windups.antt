@@ -1,5 +1,5 @@
 -- The hands of a clock, from one tick to the next.
-use Rattle.std.specs.Prelude.{ℕ, ℤ, pos, ◌+◌, ◌-◌, ◌*◌, ◌/◌, ◌+ℤ◌, ◌-ℤ◌, int_lt, unsigned_abs, min, Bool, true, false, not, ◌&&◌, ◌||◌, nat_lt, if◌then◌else◌}
+use Rattle.std.specs.Prelude.{ℕ, ℤ, pos, ◌+◌, ◌-◌, ◌*◌, ◌/◌, ◌+ℤ◌, ◌-ℤ◌, int_lt, unsigned_abs, min, Bool, true, false, not, ◌&&◌, ◌||◌, nat_lt, if◌then◌else◌, ◌^◌}
 use Rattle.ff_grain.specs.Grains.{number_of, of_grains}
 use Rattle.ff_grain.specs.declared.bintime.Bintime.{Bintime}
 use Rattle.ff_grain.specs.Periods.{nominal_period}
@@ -47,7 +47,7 @@ moved_lerp h count = after h.lerp (count - h.count) h.period_lerp
 
 -- the estimate is more than 2048 whole seconds old
 abbrev pub is_old : Hands → ℕ → Bool
-is_old h count = nat_lt 2048 ((count - h.est.update_ffcount) * h.est.period / 18446744073709551616)
+is_old h count = nat_lt 2048 ((count - h.est.update_ffcount) * h.est.period / 2 ^ 64)
 
 -- the clocks go on
 abbrev pub plain : Hands → ℕ → Hands
@@ -69,7 +69,7 @@ time_of e count = after e.update_time (count - e.update_ffcount) e.period
 -- the uninterrupted clock makes up for a gap by its slope, over as many counts as lie between the
 -- estimates, but by at most 5 ms in a second
 abbrev pub correction : ℕ → ℕ → ℕ → ℕ
-correction gap counts period = min gap (counts * period / 18446744073709551616 * 5000000 * 18446744073) / counts
+correction gap counts period = min gap (counts * period / 2 ^ 64 * 5000000 * 18446744073) / counts
 
 abbrev pub corrected : Bool → ℕ → ℕ → ℕ → ℕ
 corrected forward gap counts period = if forward then period + correction gap counts period else period - correction gap counts period

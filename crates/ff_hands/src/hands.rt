@@ -113,12 +113,12 @@ pub fn reset_estimate(at: Bintime, count: u64, freq: u64) -> Estimate
 }
 
 /// The counts, and the periods, of an estimate are below these.
-const MOST_COUNTS: u64 = 1 << 62;
+const LIMIT_COUNTS: u64 = 1 << 62;
 
-const MOST_PERIOD: u64 = 1 << 45;
+const LIMIT_PERIOD: u64 = 1 << 45;
 
 /// The grains of an estimate's time are below this.
-const MOST_TIME: i128 = 1 << 109;
+const LIMIT_TIME: i128 = 1 << 109;
 
 impl Order {
     ghost use Rattle.std.specs.Prelude.{◌≡◌};
@@ -140,13 +140,13 @@ fn is_sane_estimate(e: &Estimate) -> bool
     ensures { result ≡ is_sane_estimate e.now }
 {
     let time = e.update_time.grains();
-    e.update_ffcount < MOST_COUNTS
-        && e.leapsec_next < MOST_COUNTS
-        && e.period < MOST_PERIOD
+    e.update_ffcount < LIMIT_COUNTS
+        && e.leapsec_next < LIMIT_COUNTS
+        && e.period < LIMIT_PERIOD
         && -1 <= e.leapsec
         && e.leapsec <= 1
         && 0 <= time
-        && time < MOST_TIME
+        && time < LIMIT_TIME
 }
 
 /// Whether a clock with these hands may be wound at a count by an order: the order is sane, the count
@@ -160,5 +160,5 @@ pub fn fits(h: &Hands, count: u64, o: &Order) -> bool
         Order::Take(e) => e.update_ffcount <= count && h.est.update_ffcount < e.update_ffcount,
         Order::Reset(e) => e.update_ffcount <= count,
     };
-    o.sane() && h.count <= count && count < MOST_COUNTS && in_time
+    o.sane() && h.count <= count && count < LIMIT_COUNTS && in_time
 }

@@ -19,20 +19,6 @@ const MOST_MADE_UP: u128 = 5_000_000;
 /// The grains of a nanosecond, rounded down.
 const NANOSECOND: u128 = 18_446_744_073;
 
-/// The grains of a time after so many counts of a period in grains. The product is exact.
-pub fn after(t: Bintime, counts: u64, period: u64) -> i128
-    requires low { pos 0 ≤ℤ number_of t }
-    requires high { number_of t <ℤ pos (2 ^ 111) }
-    requires counts { counts < 2 ^ 62 }
-    requires period { period < 2 ^ 46 }
-    ensures value { result ≡ after t counts period }
-    ensures low { pos 0 ≤ℤ result }
-    ensures high { result <ℤ pos (2 ^ 112) }
-{
-    let grains = u128::from(counts) * u128::from(period);
-    t.grains() + grains as i128
-}
-
 // Whether the estimate is more than 2048 whole seconds old.
 fn is_old(h: &Hands, count: u64) -> bool
     requires update { h.now.est.update_ffcount ≤ count }
@@ -49,11 +35,10 @@ fn plain(h: &Hands, count: u64) -> Hands
     requires count { count < 2 ^ 62 }
     ensures { result ≡ plain h.now count }
 {
-    let counts = count - h.count;
     Hands {
         count,
-        time: Bintime::of_grains(after(h.time, counts, h.est.period)),
-        lerp: Bintime::of_grains(after(h.lerp, counts, h.period_lerp)),
+        time: Bintime::of_grains(h.time_at(count)),
+        lerp: Bintime::of_grains(h.lerp_at(count)),
         period_lerp: h.period_lerp,
         boot: h.boot,
         kstatus: Marks {
@@ -94,8 +79,8 @@ fn take_on(h: &Hands, count: u64, e: &Estimate) -> Hands
     requires newer { h.now.est.update_ffcount < e.now.update_ffcount }
     ensures { result ≡ take_on h.now count e.now }
 {
-    let time = after(e.update_time, count - e.update_ffcount, e.period);
-    let lerp = after(h.lerp, count - h.count, h.period_lerp);
+    let time = e.time_at(count);
+    let lerp = h.lerp_at(count);
     let counts = e.update_ffcount - h.est.update_ffcount;
     Hands {
         count,
@@ -109,7 +94,8 @@ fn take_on(h: &Hands, count: u64, e: &Estimate) -> Hands
     }
 }
 
-// A boot time moved as a clock is from one time to another.
+// A boot time moved as a clock is from one time to another. A function of its own for the prover, which
+// needs the bounds of the three numbers.
 fn moved(boot: i128, from: i128, to: i128) -> i128
     requires boot { (neg_ℤ (pos (2 ^ 112)) ≤ℤ boot) × (boot <ℤ pos (2 ^ 112)) }
     requires from { (pos 0 ≤ℤ from) × (from <ℤ pos (2 ^ 112)) }
@@ -129,8 +115,8 @@ fn take_jump(h: &Hands, count: u64, e: &Estimate) -> Hands
     requires update { e.now.update_ffcount ≤ count }
     ensures { result ≡ take_jump h.now count e.now }
 {
-    let time = after(e.update_time, count - e.update_ffcount, e.period);
-    let lerp = after(h.lerp, count - h.count, h.period_lerp);
+    let time = e.time_at(count);
+    let lerp = h.lerp_at(count);
     Hands {
         count,
         time: Bintime::of_grains(time),
@@ -157,7 +143,7 @@ fn reset(count: u64, e: &Estimate) -> Hands
     requires update { e.now.update_ffcount ≤ count }
     ensures { result ≡ reset count e.now }
 {
-    let time = Bintime::of_grains(after(e.update_time, count - e.update_ffcount, e.period));
+    let time = Bintime::of_grains(e.time_at(count));
     Hands {
         count,
         time,
