@@ -1,5 +1,5 @@
 -- Hands as fifteen words.
-use Rattle.std.specs.Prelude.{ℕ, zero, suc, ℤ, pos, negsuc, ◌+◌, ◌*◌, ◌/◌, ◌%◌, ◌^◌, ◌<◌, ◌==◌, Bool, cond, List, [], ◌∷◌, slice_index, ◌≤ℤ◌, FitsSigned}
+use Rattle.std.specs.Prelude.{ℕ, zero, suc, ℤ, pos, negsuc, ◌+◌, ◌*◌, ◌/◌, ◌%◌, ◌^◌, ◌==◌, Bool, cond, List, [], ◌∷◌, slice_index, ◌≤ℤ◌}
 use Rattle.std.specs.Int.{w16, w64, cast_unsigned, cast_signed}
 use Rattle.ff_grain.specs.declared.bintime.Bintime.{Bintime}
 use Rattle.ff_hands.specs.declared.hands.Hands.{Hands}
@@ -74,12 +74,3 @@ hands_by word l = record {
 
 unfoldable pub unpack : List ℕ → Hands
 unpack l = hands_by (slice_index l 14) l
-
--- the numbers that share a word, and the signed ones, are those of their types
-pub record HasRanges (h : Hands) : Type 0 where
-  pub time : FitsSigned w64 h.time.sec
-  pub lerp : FitsSigned w64 h.lerp.sec
-  pub boot : FitsSigned w64 h.boot.sec
-  pub update_time : FitsSigned w64 h.est.update_time.sec
-  pub errb_abs : h.est.errb_abs < 2 ^ 32
-  pub total : FitsSigned w16 h.est.leapsec_total

@@ -1,9 +1,9 @@
 // Hands as words, and back.
 ghost use Rattle.std.specs.Prelude.{◌≡◌, ◌<◌};
-ghost use Rattle.hand_words.specs.Words.{flag, how_number, how_of, leap_number, leap_of, packed_word, time_of, pack, unpack, HasRanges, IsLeap};
+ghost use Rattle.hand_words.specs.Words.{flag, how_number, how_of, leap_number, leap_of, packed_word, time_of, pack, unpack, IsLeap};
 
 use ff_grain::Bintime;
-use ff_hands::{Estimate, Hands, How, Marks};
+use ff_hands::{Estimate, Hands, How, Marks, fits_words};
 
 /// The number of words of a tick, which are its fields: field `f` is word `f` of its hands, from 0 to 14.
 pub const FIELDS: usize = 15;
@@ -80,8 +80,7 @@ fn packed_word(h: &Hands) -> u64
 #[tactic(auto, unfolding(crate::specs::Words::pack))]
 fn words_of(h: &Hands) -> [u64; 15]
     requires leap { IsLeap h.now.est.leapsec }
-    ensures value { result ≡ pack h.now }
-    ensures ranges { HasRanges h.now }
+    ensures { result ≡ pack h.now }
 {
     let e = &h.est;
     [
@@ -126,6 +125,7 @@ pub fn pack(h: &Hands) -> [u64; 15]
     ensures value { result ≡ pack h.now }
     ensures back { unpack result ≡ h.now }
 {
+    fits_words(*h);
     words_of(h)
 }
 

@@ -7,11 +7,12 @@ use Rattle.clock_lines.specs.declared.readings.Reading.{Reading}
 use Rattle.clock_lines.specs.declared.readings.Entry.{Entry}
 use Rattle.clock_lines.specs.declared.readings.Entry.TheVariants.{Read, Again}
 use Rattle.ff_hands.specs.declared.hands.Hands.{Hands}
+use Rattle.clock_lines.specs.Readings.{reading_at}
 use Rattle.hand_words.specs.Words.{unpack}
 use Rattle.tick_reads.specs.declared.loads.Ask.{Ask}
 use Rattle.tick_reads.specs.declared.loads.Load.{Load}
 use Rattle.tick_reads.specs.declared.loads.Load.TheVariants.{Turn, Field, Mark, Counter}
-use Rattle.tick_reads.specs.Ways.{Way, Whole, Light, Past, way_of, count_by, reading_at, reading}
+use Rattle.tick_reads.specs.Ways.{Way, Whole, Light, Past, way_of, count_by, reading}
 use Rattle.tick_reads.specs.Looks.{full_mark, fields_from, look}
 use Rattle.tick_reads.specs.Scans.{Scan, fresh, scan_at, ends, at_turn, at_mark, turn_ends, mark_ends, opens_at, turn_again, counter_by, field_on, after, run, decided}
 use Rattle.tick_reads.specs.Converts.{ask_back}
@@ -34,6 +35,7 @@ count_whole kind.Uptime given c h e = refl
 count_whole kind.Fast given c h e = whole_light e
 count_whole kind.Diff given c h e = whole_light e
 count_whole kind.Back given c h e = whole_past e
+count_whole kind.Utc given c h e = refl
 
 half : (n : ℕ) → 2 * n / 2 ≡ n
 half n = omega arith
@@ -196,6 +198,7 @@ back_only kind.Uptime e = cc
 back_only kind.Fast e = cc
 back_only kind.Diff e = cc
 back_only kind.Back e = refl
+back_only kind.Utc e = cc
 
 is_back : (ask : Ask) → way_of ask.kind ≡ Past → ask_back ask.given ≡ ask
 is_back ask e = λ i. record { kind = sym (back_only ask.kind e) i; given = ask.given }

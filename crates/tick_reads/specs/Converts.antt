@@ -3,11 +3,11 @@ use Rattle.std.specs.Prelude.{◌≡◌, ◌≢◌, ℕ, suc, ◌+◌, ◌/◌, 
 use Rattle.clock_lines.specs.declared.readings.Kind.TheVariants as kind
 use Rattle.clock_lines.specs.declared.readings.Entry.{Entry}
 use Rattle.clock_lines.specs.declared.readings.Entry.TheVariants.{Read, Again, TooOld, Ahead}
+use Rattle.clock_lines.specs.Readings.{reading_at}
 use Rattle.hand_words.specs.Words.{unpack}
 use Rattle.tick_reads.specs.declared.loads.Ask.{Ask}
 use Rattle.tick_reads.specs.declared.loads.Load.{Load}
 use Rattle.tick_reads.specs.declared.loads.Load.TheVariants.{Turn, Counter}
-use Rattle.tick_reads.specs.Ways.{reading_at}
 use Rattle.tick_reads.specs.Looks.{full_mark, look}
 
 -- The turn word w was loaded, and the ticks from its own down to the one after m were looked at: their

@@ -4,11 +4,12 @@ use Rattle.clock_lines.specs.declared.readings.Kind.{Kind}
 use Rattle.clock_lines.specs.declared.readings.Reading.{Reading}
 use Rattle.clock_lines.specs.declared.readings.Entry.{Entry}
 use Rattle.clock_lines.specs.declared.readings.Entry.TheVariants.{Read, Again}
+use Rattle.clock_lines.specs.Readings.{reading_at}
 use Rattle.hand_words.specs.Words.{unpack}
 use Rattle.tick_reads.specs.declared.loads.Ask.{Ask}
 use Rattle.tick_reads.specs.declared.loads.Load.{Load}
 use Rattle.tick_reads.specs.declared.loads.Load.TheVariants.{Turn, Counter}
-use Rattle.tick_reads.specs.Ways.{Way, Whole, Light, Past, way_of, reading_at, reading}
+use Rattle.tick_reads.specs.Ways.{Way, Whole, Light, Past, way_of, reading}
 use Rattle.tick_reads.specs.Looks.{full_mark, fields_from, look}
 use Rattle.tick_reads.specs.Converts.{Converts}
 

@@ -4,7 +4,7 @@ use Rattle.ff_hands.specs.declared.hands.Hands.{Hands}
 use Rattle.clock_lines.specs.declared.readings.Kind.{Kind}
 use Rattle.clock_lines.specs.declared.readings.Kind.TheVariants as kind
 use Rattle.clock_lines.specs.declared.readings.Reading.{Reading}
-use Rattle.clock_lines.specs.Values.{value_of, bound_of}
+use Rattle.clock_lines.specs.Readings.{reading_at}
 use Rattle.tick_reads.specs.declared.loads.Ask.{Ask}
 
 -- Whole: at the counter, between two equal turn words. Light: by the mark of the tick alone. Past: by the
@@ -21,6 +21,7 @@ way_of kind.Uptime = Whole
 way_of kind.Fast = Light
 way_of kind.Diff = Light
 way_of kind.Back = Past
+way_of kind.Utc = Whole
 
 -- a full read is over at once where a windup stands open
 abbrev pub needs_even : Way → Bool
@@ -36,10 +37,8 @@ count_by kind.Uptime given h c = c
 count_by kind.Fast given h c = h.count
 count_by kind.Diff given h c = given
 count_by kind.Back given h c = given
+count_by kind.Utc given h c = c
 
--- the reading of a tick by its hands at a count
-abbrev pub reading_at : Hands → ℕ → Kind → ℕ → Reading
-reading_at h n k count = record { kind = k; tick = n; count = count; time = value_of h k count; bound = bound_of h k count }
-
+-- the reading of a tick by its hands, where the counter stood at c
 abbrev pub reading : Ask → ℕ → Hands → ℕ → Reading
 reading ask tick h c = reading_at h tick ask.kind (count_by ask.kind ask.given h c)

@@ -107,6 +107,7 @@ module _ (w : World) (back : (m : ℕ) (h : Hands) → get_elem? w.journal m ≡
   new_read kind.Fast given c h xs f = tt
   new_read kind.Diff given c h xs f = tt
   new_read kind.Back given c h xs f = tt
+  new_read kind.Utc given c h xs f = f refl
 
   one_new : (xs : List ℕ) (c : ℕ) → AllBelow c xs → c ≤ w.counter → NewCounts xs (c ∷ [])
   unfolding NewCounts
