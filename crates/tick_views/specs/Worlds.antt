@@ -196,3 +196,7 @@ pub record Goes (w w' : World) : Type 0 where
   -- a new tick's count is at least what the last reading may have
   pub next : (h : Hands) → get_elem? w'.journal (length w.journal) ≡ some h → w.bound ≤ h.count
   pub bound : length w'.journal ≡ length w.journal → w.bound ≤ w'.bound
+
+-- the next tick is published: the turn word is its, and no windup stands open
+abbrev pub published : World → Hands → World
+published w h = record w { journal = w.journal ++ h ∷ []; turn = 2 * length w.journal; bound = w.counter }

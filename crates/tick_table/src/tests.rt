@@ -1,0 +1,1 @@
+// One happy path through every call that takes memory.
