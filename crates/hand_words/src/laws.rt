@@ -5,8 +5,8 @@ ghost use Rattle.ff_hands.specs.Ranges.{FitsWords};
 ghost use Rattle.ff_hands.specs.declared.hands.Hands.{Hands};
 ghost use Rattle.hand_words.specs.Words.{IsLeap, pack, unpack};
 
-/// The law that hands are read back from their words, where each of their numbers fits its word and at most
-/// one leap second is due. Any hands in memory have the first.
+/// The law that hands are read back from their words, where each of their numbers fits its word and at
+/// most one leap second is due. Any hands in memory have the first.
 pub fn hands_are_read_back()
     ensures { (h : Hands) → FitsWords h → IsLeap h.est.leapsec → unpack (pack h) ≡ h }
 {}

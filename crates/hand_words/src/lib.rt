@@ -1,5 +1,5 @@
-//! The hands of a tick as fifteen 64-bit words, which may be stored and loaded one by one, and hands from
-//! such words.
+//! The hands of a tick as fifteen 64-bit words, which may be stored and loaded one by one, and hands
+//! from such words.
 #![tactic(auto)]
 
 mod laws;

@@ -8,7 +8,7 @@ use Rattle.clock_lines.specs.declared.readings.Entry.TheVariants.{Again}
 use Rattle.hand_words.specs.Words.{unpack}
 use Rattle.tick_reads.specs.declared.loads.Load.{Load}
 use Rattle.tick_reads.specs.declared.loads.Load.TheVariants.{Turn, Field, Mark, Counter}
-use Rattle.tick_reads.specs.Ways.{Past}
+use Rattle.clock_logs.specs.Legal.{past}
 use Rattle.tick_reads.specs.Looks.{full_mark, fields_from, look}
 use Rattle.tick_reads.specs.Scans.{Scan, fresh, scan_at, is_even, ends, at_turn, goes_down, finds_top, finds_line, looks_at, finds_mark, walks, counts_back, opens_at, field_on, after, run, decided}
 use Rattle.tick_reads.specs.Converts.{Down, opens, goes, ask_back, read_back, Looks, IsPast, Converts, moved, open_windup, not_yet, crossed, newest, older, oldest, too_old}
@@ -19,7 +19,7 @@ looks_run : (given w m : ℕ) (loads : List Load) (fields : List ℕ) (x : ℕ) 
 looks_run given w m loads fields x l = ap (run (ask_back given) fresh) l.is ∙ (run-append (ask_back given) fresh l.before (look m fields x) ∙ (ap (λ s. run (ask_back given) s (look m fields x)) (is_down given w m l.before l.down) ∙ run_look given w m fields x))
 
 past_run : (given w : ℕ) (loads : List Load) (fields : List ℕ) → IsPast given w loads fields → w % 2 ≡ 0 → run (ask_back given) fresh loads ≡ scan_at w (w / 2) true fields []
-past_run given w loads fields p even = looks_run given w (w / 2) loads fields _ p.looks ∙ finds_newest given w (w / 2) fields p.looks.long p.past refl even
+past_run given w loads fields p even = looks_run given w (w / 2) loads fields _ p.looks ∙ finds_newest given w (w / 2) fields p.looks.long p.below refl even
 
 answer_of : Scan → Option Entry
 answer_of s = s.answer
@@ -27,7 +27,7 @@ answer_of s = s.answer
 -- each call of the order decides its answer
 pub decides : (given w : ℕ) (loads : List Load) (e : Entry) → Converts given w loads e → decided (ask_back given) loads ≡ Some e
 decides given w loads e (moved ls fields m mark l other) = ap (λ (s : Scan). s.answer) (looks_run given w m ls fields mark l ∙ moves given w m fields l.long mark other)
-decides given w loads e (open_windup ls fields p odd) = ap (λ (s : Scan). s.answer) (looks_run given w (w / 2) ls fields _ p.looks ∙ finds_open given w (w / 2) fields p.looks.long p.past refl (λ z. omega arith))
+decides given w loads e (open_windup ls fields p odd) = ap (λ (s : Scan). s.answer) (looks_run given w (w / 2) ls fields _ p.looks ∙ finds_open given w (w / 2) fields p.looks.long p.below refl (λ z. omega arith))
 decides given w loads e (not_yet ls fields counter p even less) = ap (λ (s : Scan). s.answer) (run-append (ask_back given) fresh ls (Counter counter ∷ []) ∙ (ap (λ s. after (ask_back given) s (Counter counter)) (past_run given w ls fields p even) ∙ finds_ahead given w (w / 2) fields counter less))
 decides given w loads e (crossed ls fields counter turn p even up other) = ap (λ (s : Scan). s.answer) (run-append (ask_back given) fresh ls (Counter counter ∷ Turn turn ∷ []) ∙ (ap (λ s. after (ask_back given) (after (ask_back given) s (Counter counter)) (Turn turn)) (past_run given w ls fields p even) ∙ (ap (λ s. after (ask_back given) s (Turn turn)) (reaches given w (w / 2) fields counter up)
     ∙ ap (λ b. ends (Some (at_turn b (ask_back given) (scan_at w (w / 2) true fields (counter ∷ [])) turn)) (scan_at w (w / 2) true fields (counter ∷ []))) (ne_eqb turn w other))))
@@ -45,16 +45,16 @@ data Stage (given w : ℕ) : List Load → Scan → Type 0 where
 
 module _ (given w : ℕ) where
   abbrev GoesOn : List Load → Scan → Type 0
-  GoesOn = Goes (ask_back given) Past refl (Stage given w) (Converts given w)
+  GoesOn = Goes (ask_back given) past refl (Stage given w) (Converts given w)
 
   go_astray : (loads : List Load) (s : Scan) → s.begun ≡ true → s.good ≡ false → s.answer ≡ None → GoesOn loads s
-  go_astray = astray (ask_back given) Past refl (Stage given w) (Converts given w)
+  go_astray = astray (ask_back given) past refl (Stage given w) (Converts given w)
 
   is_over : (loads : List Load) (s : Scan) (e : Entry) → s.begun ≡ true → Converts given w loads e → GoesOn loads (ends (Some e) s)
-  is_over loads s e begun law = over (ask_back given) Past refl (Stage given w) (Converts given w) loads (ends (Some e) s) e refl refl refl law
+  is_over loads s e begun law = over (ask_back given) past refl (Stage given w) (Converts given w) loads (ends (Some e) s) e refl refl refl law
 
   go_further : (loads : List Load) (s : Scan) → Stage given w loads s → GoesOn loads s
-  go_further = further (ask_back given) Past refl (Stage given w) (Converts given w)
+  go_further = further (ask_back given) past refl (Stage given w) (Converts given w)
 
   append_none : (l : List Load) → l ++ [] ≡ l
   append_none [] = refl
@@ -87,22 +87,22 @@ module _ (given w : ℕ) where
         list_is : so_far ++ Mark t x ∷ [] ≡ before ++ look m fields (full_mark m)
         list_is = (λ i. so_far ++ Mark (tick i) (mark i) ∷ []) ∙ append_assoc before (fields_from m 0 fields) (Mark m (full_mark m) ∷ [])
 
-        full : Looks given w m (so_far ++ Mark t x ∷ []) fields (full_mark m)
-        full = record { before = before; down = d; is = list_is; long = long }
+        whole_look : Looks given w m (so_far ++ Mark t x ∷ []) fields (full_mark m)
+        whole_look = record { before = before; down = d; is = list_is; long = long }
 
         at_top : (a : Bool) → is_even w ≡ a → m ≡ w / 2 → (unpack fields).count < given → GoesOn (so_far ++ Mark t x ∷ []) (finds_top a (ask_back given) s)
-        at_top true even top less = let p : IsPast given w (so_far ++ Mark t x ∷ []) fields = record { looks = subst (λ n. Looks given w n (so_far ++ Mark t x ∷ []) fields (full_mark n)) top full; past = less } in
+        at_top true even top less = let p : IsPast given w (so_far ++ Mark t x ∷ []) fields = record { looks = subst (λ n. Looks given w n (so_far ++ Mark t x ∷ []) fields (full_mark n)) top whole_look; below = less } in
             subst (λ n. GoesOn (so_far ++ Mark t x ∷ []) (scan_at w n true fields [])) (sym top) (go_further _ _ (lined _ fields p (eqb-true (w % 2) 0 even)))
-        at_top false even top less = let p : IsPast given w (so_far ++ Mark t x ∷ []) fields = record { looks = subst (λ n. Looks given w n (so_far ++ Mark t x ∷ []) fields (full_mark n)) top full; past = less } in
+        at_top false even top less = let p : IsPast given w (so_far ++ Mark t x ∷ []) fields = record { looks = subst (λ n. Looks given w n (so_far ++ Mark t x ∷ []) fields (full_mark n)) top whole_look; below = less } in
             let ne : w % 2 ≢ 0 = λ z. true≢false (sym (eq-eqb (w % 2) 0 z) ∙ even) in is_over _ s _ refl (open_windup _ fields p (omega arith))
 
         at_line : (a : Bool) → (m == w / 2) ≡ a → (unpack fields).count < given → GoesOn (so_far ++ Mark t x ∷ []) (finds_line a (ask_back given) s)
         at_line true same less = at_top (is_even w) refl (eqb-true m (w / 2) same) less
-        at_line false same less = let near = down-near m before d in let ne : m ≢ w / 2 = λ z. true≢false (sym (eq-eqb m (w / 2) z) ∙ same) in is_over _ s _ refl (older _ fields m full (omega arith) less)
+        at_line false same less = let near = down-near m before d in let ne : m ≢ w / 2 = λ z. true≢false (sym (eq-eqb m (w / 2) z) ∙ same) in is_over _ s _ refl (older _ fields m whole_look (omega arith) less)
 
         at_down : (a b : Bool) → (m == 0) ≡ a → (m + 9 == w / 2) ≡ b → given ≤ (unpack fields).count → GoesOn (so_far ++ Mark t x ∷ []) (goes_down a b (ask_back given) s)
-        at_down true b z last low = let zero-is : m ≡ 0 = eqb-true m 0 z in is_over _ s _ refl (subst (λ n. Converts given w (so_far ++ Mark t x ∷ []) (read_back given n fields)) (sym zero-is) (oldest _ fields (subst (λ n. Looks given w n (so_far ++ Mark t x ∷ []) fields (full_mark n)) zero-is full) low))
-        at_down false true z last low = let ne : m ≢ 0 = λ e. true≢false (sym (eq-eqb m 0 e) ∙ z) in is_over _ s _ refl (too_old _ fields m full (omega arith) (eqb-true (m + 9) (w / 2) last) low)
+        at_down true b z last low = let zero-is : m ≡ 0 = eqb-true m 0 z in is_over _ s _ refl (subst (λ n. Converts given w (so_far ++ Mark t x ∷ []) (read_back given n fields)) (sym zero-is) (oldest _ fields (subst (λ n. Looks given w n (so_far ++ Mark t x ∷ []) fields (full_mark n)) zero-is whole_look) low))
+        at_down false true z last low = let ne : m ≢ 0 = λ e. true≢false (sym (eq-eqb m 0 e) ∙ z) in is_over _ s _ refl (too_old _ fields m whole_look (omega arith) (eqb-true (m + 9) (w / 2) last) low)
         at_down false false z last low = let ne : m ≢ 0 = λ e. true≢false (sym (eq-eqb m 0 e) ∙ z) in let ne' : m + 9 ≢ w / 2 = λ e. true≢false (sym (eq-eqb (m + 9) (w / 2) e) ∙ last) in
             let up : suc (m - 1) ≡ m = omega arith in
             let list : before ++ look (suc (m - 1)) fields (full_mark (suc (m - 1))) ≡ so_far ++ Mark t x ∷ [] = ap (λ n. before ++ look n fields (full_mark n)) up ∙ sym list_is in
@@ -134,7 +134,7 @@ module _ (given w : ℕ) where
     next_turn c x true up same = is_over _ (scan_at w (w / 2) true fields (c ∷ [])) _ refl (subst (λ l. Converts given w l (read_back given (w / 2) fields)) (ap (λ y. loads ++ Counter c ∷ Turn y ∷ []) (sym (eqb-true x w same)) ∙ sym (append_assoc loads (Counter c ∷ []) (Turn x ∷ []))) (newest loads fields c p even up))
     next_turn c x false up same = is_over _ (scan_at w (w / 2) true fields (c ∷ [])) _ refl (subst (λ l. Converts given w l (Again kind.Back w x)) (sym (append_assoc loads (Counter c ∷ []) (Turn x ∷ []))) (crossed loads fields c x p even up (λ e. true≢false (sym (eq-eqb x w e) ∙ same))))
 
-  next : (loads : List Load) (s : Scan) → Stage given w loads s → (l : Load) → GoesOn (loads ++ l ∷ []) (after_by Past (ask_back given) s l)
+  next : (loads : List Load) (s : Scan) → Stage given w loads s → (l : Load) → GoesOn (loads ++ l ∷ []) (after_by past (ask_back given) s l)
   unfolding after_by
   next loads s (looking m before fields d) (Turn x) = go_astray _ (ends None (scan_at w m false fields [])) refl refl refl
   next loads s (looking m before fields d) (Field t f x) = next_field m before fields d t f x (t == m) (f == length fields) refl refl
@@ -156,4 +156,4 @@ module _ (given w : ℕ) where
 
 -- the answer of a conversion tells its loads
 pub explains : (given w : ℕ) (ls : List Load) (e : Entry) → decided (ask_back given) (Turn w ∷ ls) ≡ Some e → Converts given w (Turn w ∷ ls) e
-explains given w ls e is = goes_to_end (ask_back given) Past refl (Stage given w) (Converts given w) (undecided given w) (next given w) (Turn w ∷ []) (opens_at w) ls e (looking (w / 2) (Turn w ∷ []) [] opens) is
+explains given w ls e is = goes_to_end (ask_back given) past refl (Stage given w) (Converts given w) (undecided given w) (next given w) (Turn w ∷ []) (opens_at w) ls e (looking (w / 2) (Turn w ∷ []) [] opens) is

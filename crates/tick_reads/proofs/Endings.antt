@@ -4,7 +4,7 @@ use Rattle.clock_lines.specs.declared.readings.Entry.{Entry}
 use Rattle.tick_reads.specs.declared.loads.Ask.{Ask}
 use Rattle.tick_reads.specs.declared.loads.Load.{Load}
 use Rattle.tick_reads.specs.declared.loads.Load.TheVariants.{Turn, Field, Mark, Counter}
-use Rattle.tick_reads.specs.Ways.{Way, Whole, Light, Past, way_of}
+use Rattle.clock_logs.specs.Legal.{Way, full, quick, past, way_of}
 use Rattle.tick_reads.specs.Scans.{Scan, fresh, has_fields, ends, turn_ends, mark_ends, turn_again, turned, mark_by, walks, counter_by, counter_back, field_on, after, run}
 
 -- a call that has begun goes on by its way
@@ -23,9 +23,9 @@ by_way y ask e s begun (Mark t x) = λ i. mark_by (e i) ask s t x
 
 -- a call that will have no further answer: it went astray, or a full read has a sixteenth field or a second counter
 abbrev pub IsLost : Way → Scan → Type 0
-IsLost Whole s = (s.good ≡ false) ⊎ ((15 < length s.fields) ⊎ (1 < length s.counters))
-IsLost Light s = s.good ≡ false
-IsLost Past s = s.good ≡ false
+IsLost full s = (s.good ≡ false) ⊎ ((15 < length s.fields) ⊎ (1 < length s.counters))
+IsLost quick s = s.good ≡ false
+IsLost past s = s.good ≡ false
 
 pub false_and : (b : Bool) → (b && false) ≡ false
 false_and true = refl
@@ -40,7 +40,7 @@ some_same e d p = cc
 pub IsOut : Way → Scan → Type 0
 IsOut y s = (s.begun ≡ true) × (s.answer ≡ None) × IsLost y s
 
-no_end : (s : Scan) → IsLost Whole s → (has_fields s && (length s.counters == 1)) ≡ false
+no_end : (s : Scan) → IsLost full s → (has_fields s && (length s.counters == 1)) ≡ false
 no_end s lost = ⊎_elim (λ (bad : s.good ≡ false). λ i. bad i && (length s.fields == 15) && (length s.counters == 1))
     (λ (z : (15 < length s.fields) ⊎ (1 < length s.counters)). ⊎_elim
     (λ (long : 15 < length s.fields). (λ i. s.good && ne_eqb (length s.fields) 15 (λ e. omega arith) i && (length s.counters == 1)) ∙ ap (λ b. b && (length s.counters == 1)) (false_and s.good))
@@ -52,28 +52,28 @@ longer n x xs h = omega (arith, length-append xs (x ∷ []))
 module _ (ask : Ask) where
   pub stays_lost : (y : Way) → way_of ask.kind ≡ y → (s : Scan) → s.begun ≡ true → IsLost y s → (l : Load) → IsOut y (after_by y ask s l)
   unfolding IsOut after_by
-  stays_lost Whole e s begun lost (Turn x) = subst (λ b. IsOut Whole (ends (turn_ends b ask s x) s)) (sym (no_end s lost)) (refl, refl, inl refl)
-  stays_lost Whole e s begun lost (Field t f x) = (
+  stays_lost full e s begun lost (Turn x) = subst (λ b. IsOut full (ends (turn_ends b ask s x) s)) (sym (no_end s lost)) (refl, refl, inl refl)
+  stays_lost full e s begun lost (Field t f x) = (
     refl,
     refl,
     ⊎_elim (λ (bad : s.good ≡ false). inl (λ i. bad i && not s.line && (t == s.tick) && (f == length s.fields)))
         (λ (z : (15 < length s.fields) ⊎ (1 < length s.counters)). ⊎_elim (λ (long : 15 < length s.fields). inr (inl (longer 15 x s.fields long))) (λ (two : 1 < length s.counters). inr (inr two)) z) lost,
   )
-  stays_lost Whole e s begun lost (Counter x) = (
+  stays_lost full e s begun lost (Counter x) = (
     refl,
     refl,
     ⊎_elim (λ (bad : s.good ≡ false). inl (λ i. bad i && (length s.fields == 15)))
         (λ (z : (15 < length s.fields) ⊎ (1 < length s.counters)). ⊎_elim (λ (long : 15 < length s.fields). inr (inl long)) (λ (two : 1 < length s.counters). inr (inr (longer 1 x s.counters two))) z) lost,
   )
-  stays_lost Whole e s begun lost (Mark t x) = (refl, refl, inl refl)
-  stays_lost Light e s begun lost (Turn x) = (refl, refl, refl)
-  stays_lost Light e s begun lost (Field t f x) = (refl, refl, λ i. lost i && not s.line && (t == s.tick) && (f == length s.fields))
-  stays_lost Light e s begun lost (Counter x) = (refl, refl, refl)
-  stays_lost Light e s begun lost (Mark t x) = subst (λ b. IsOut Light (ends (mark_ends b ask s x) s)) (λ i. sym lost i && (length s.fields == 15) && (t == s.tick)) (refl, refl, refl)
-  stays_lost Past e s begun lost (Turn x) = subst (λ b. IsOut Past (ends (turn_ends b ask s x) s)) (λ i. sym lost i && s.line && (length s.counters == 1)) (refl, refl, refl)
-  stays_lost Past e s begun lost (Field t f x) = (refl, refl, λ i. lost i && not s.line && (t == s.tick) && (f == length s.fields))
-  stays_lost Past e s begun lost (Counter x) = subst (λ b. IsOut Past (counter_back b ask s x)) (λ i. sym lost i && s.line && (length s.counters == 0)) (refl, refl, refl)
-  stays_lost Past e s begun lost (Mark t x) = subst (λ b. IsOut Past (walks b ask s x)) (λ i. sym lost i && (length s.fields == 15) && not s.line && (t == s.tick)) (refl, refl, refl)
+  stays_lost full e s begun lost (Mark t x) = (refl, refl, inl refl)
+  stays_lost quick e s begun lost (Turn x) = (refl, refl, refl)
+  stays_lost quick e s begun lost (Field t f x) = (refl, refl, λ i. lost i && not s.line && (t == s.tick) && (f == length s.fields))
+  stays_lost quick e s begun lost (Counter x) = (refl, refl, refl)
+  stays_lost quick e s begun lost (Mark t x) = subst (λ b. IsOut quick (ends (mark_ends b ask s x) s)) (λ i. sym lost i && (length s.fields == 15) && (t == s.tick)) (refl, refl, refl)
+  stays_lost past e s begun lost (Turn x) = subst (λ b. IsOut past (ends (turn_ends b ask s x) s)) (λ i. sym lost i && s.line && (length s.counters == 1)) (refl, refl, refl)
+  stays_lost past e s begun lost (Field t f x) = (refl, refl, λ i. lost i && not s.line && (t == s.tick) && (f == length s.fields))
+  stays_lost past e s begun lost (Counter x) = subst (λ b. IsOut past (counter_back b ask s x)) (λ i. sym lost i && s.line && (length s.counters == 0)) (refl, refl, refl)
+  stays_lost past e s begun lost (Mark t x) = subst (λ b. IsOut past (walks b ask s x)) (λ i. sym lost i && (length s.fields == 15) && not s.line && (t == s.tick)) (refl, refl, refl)
 
   module _ (y : Way) (way : way_of ask.kind ≡ y) where
     pub no_more : (s : Scan) (ls : List Load) (e : Entry) → IsOut y s → (run ask s ls).answer ≡ Some e → ⊥
@@ -115,22 +115,22 @@ module _ (ask : Ask) where
 
 -- a call that does not begin with the turn word has no answer
 lost_at_once : (y : Way) (s : Scan) → s.good ≡ false → IsLost y s
-lost_at_once Whole s bad = inl bad
-lost_at_once Light s bad = bad
-lost_at_once Past s bad = bad
+lost_at_once full s bad = inl bad
+lost_at_once quick s bad = bad
+lost_at_once past s bad = bad
 
 module _ (ask : Ask) (y : Way) (way : way_of ask.kind ≡ y) where
   counter_first : (z : Way) (x : ℕ) → IsOut y (counter_by z ask fresh x)
   unfolding IsOut
-  counter_first Whole x = (refl, refl, lost_at_once y (counter_by Whole ask fresh x) refl)
-  counter_first Light x = (refl, refl, lost_at_once y (counter_by Light ask fresh x) refl)
-  counter_first Past x = (refl, refl, lost_at_once y (counter_by Past ask fresh x) refl)
+  counter_first full x = (refl, refl, lost_at_once y (counter_by full ask fresh x) refl)
+  counter_first quick x = (refl, refl, lost_at_once y (counter_by quick ask fresh x) refl)
+  counter_first past x = (refl, refl, lost_at_once y (counter_by past ask fresh x) refl)
 
   mark_first : (z : Way) (t x : ℕ) → IsOut y (mark_by z ask fresh t x)
   unfolding IsOut
-  mark_first Whole t x = (refl, refl, lost_at_once y (mark_by Whole ask fresh t x) refl)
-  mark_first Light t x = (refl, refl, lost_at_once y (mark_by Light ask fresh t x) refl)
-  mark_first Past t x = (refl, refl, lost_at_once y (mark_by Past ask fresh t x) refl)
+  mark_first full t x = (refl, refl, lost_at_once y (mark_by full ask fresh t x) refl)
+  mark_first quick t x = (refl, refl, lost_at_once y (mark_by quick ask fresh t x) refl)
+  mark_first past t x = (refl, refl, lost_at_once y (mark_by past ask fresh t x) refl)
 
   field_first : (t f x : ℕ) → IsOut y (field_on fresh t f x)
   unfolding IsOut

@@ -6,7 +6,8 @@ use Rattle.hand_words.specs.Words.{unpack}
 use Rattle.tick_reads.specs.declared.loads.Ask.{Ask}
 use Rattle.tick_reads.specs.declared.loads.Load.{Load}
 use Rattle.tick_reads.specs.declared.loads.Load.TheVariants.{Turn, Field, Mark, Counter}
-use Rattle.tick_reads.specs.Ways.{Whole, Light, way_of, needs_even}
+use Rattle.clock_logs.specs.Legal.{full, quick, way_of}
+use Rattle.tick_reads.specs.Ways.{needs_even}
 use Rattle.tick_reads.specs.Looks.{full_mark, fields_from, look}
 use Rattle.tick_reads.specs.Scans.{Scan, fresh, scan_at, is_even, read_by, ends, at_turn, at_mark, turn_ends, mark_ends, opens_at, opened, turn_again, goes_down, finds_top, finds_line, looks_at, finds_mark, walks, mark_by, counts_back, counter_by, after, run}
 use Rattle.tick_reads.specs.Converts.{Down, opens, goes, ask_back}
@@ -105,17 +106,17 @@ is_down given w m loads (goes m' before fields down long low more) = let nz : su
 
 -- a full read, and a fast one
 module _ (ask : Ask) (w m : ℕ) (fields : List ℕ) (long : length fields ≡ 15) where
-  pub whole_counts : way_of ask.kind ≡ Whole → (c : ℕ) → after ask (scan_at w m false fields []) (Counter c) ≡ scan_at w m false fields (c ∷ [])
+  pub whole_counts : way_of ask.kind ≡ full → (c : ℕ) → after ask (scan_at w m false fields []) (Counter c) ≡ scan_at w m false fields (c ∷ [])
   whole_counts way c = (λ i. counter_by (way i) ask (scan_at w m false fields []) c) ∙ (λ i. record (scan_at w m false fields (c ∷ [])) { good = true && eq-eqb (length fields) 15 long i })
 
-  pub whole_ends : way_of ask.kind ≡ Whole → (c x : ℕ) → after ask (scan_at w m false fields (c ∷ [])) (Turn x) ≡ ends (Some (at_turn (x == w) ask (scan_at w m false fields (c ∷ [])) x)) (scan_at w m false fields (c ∷ []))
+  pub whole_ends : way_of ask.kind ≡ full → (c x : ℕ) → after ask (scan_at w m false fields (c ∷ [])) (Turn x) ≡ ends (Some (at_turn (x == w) ask (scan_at w m false fields (c ∷ [])) x)) (scan_at w m false fields (c ∷ []))
   whole_ends way c x = (λ i. turn_again (way i) ask (scan_at w m false fields (c ∷ [])) x) ∙ (λ i. ends (turn_ends (true && eq-eqb (length fields) 15 long i && true) ask (scan_at w m false fields (c ∷ [])) x) (scan_at w m false fields (c ∷ [])))
 
-  pub light_ends : way_of ask.kind ≡ Light → (x : ℕ) → after ask (scan_at w m false fields []) (Mark m x) ≡ ends (Some (at_mark (x == full_mark m) ask (scan_at w m false fields []) x)) (scan_at w m false fields [])
+  pub light_ends : way_of ask.kind ≡ quick → (x : ℕ) → after ask (scan_at w m false fields []) (Mark m x) ≡ ends (Some (at_mark (x == full_mark m) ask (scan_at w m false fields []) x)) (scan_at w m false fields [])
   light_ends way x = (λ i. mark_by (way i) ask (scan_at w m false fields []) m x) ∙ (λ i. ends (mark_ends (true && eq-eqb (length fields) 15 long i && eq-eqb m m refl i) ask (scan_at w m false fields []) x) (scan_at w m false fields []))
 
 -- the first load of a call that is not decided by it
-pub opens_light : (ask : Ask) (w : ℕ) → way_of ask.kind ≡ Light → after ask fresh (Turn w) ≡ scan_at w (w / 2) false [] []
+pub opens_light : (ask : Ask) (w : ℕ) → way_of ask.kind ≡ quick → after ask fresh (Turn w) ≡ scan_at w (w / 2) false [] []
 opens_light ask w way = λ i. opened (needs_even (way i) && not (is_even w)) ask w
 
 pub opens_even : (ask : Ask) (w : ℕ) → w % 2 ≡ 0 → after ask fresh (Turn w) ≡ scan_at w (w / 2) false [] []
@@ -125,5 +126,5 @@ opens_even ask w even = (λ i. opened (needs_even (way_of ask.kind) && not (eq-e
     and_false true = refl
     and_false false = refl
 
-pub opens_odd : (ask : Ask) (w : ℕ) → way_of ask.kind ≡ Whole → w % 2 ≢ 0 → after ask fresh (Turn w) ≡ ends (Some (Again ask.kind w w)) (opens_at w)
+pub opens_odd : (ask : Ask) (w : ℕ) → way_of ask.kind ≡ full → w % 2 ≢ 0 → after ask fresh (Turn w) ≡ ends (Some (Again ask.kind w w)) (opens_at w)
 opens_odd ask w way odd = λ i. opened (needs_even (way i) && not (ne_eqb (w % 2) 0 odd i)) ask w

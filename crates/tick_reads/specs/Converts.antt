@@ -33,7 +33,7 @@ pub record Looks (given w m : ℕ) (loads : List Load) (fields : List ℕ) (mark
 -- the newest tick's mark stands, and the count given is past its count
 pub record IsPast (given w : ℕ) (loads : List Load) (fields : List ℕ) : Type 0 where
   pub looks : Looks given w (w / 2) loads fields (full_mark (w / 2))
-  pub past : (unpack fields).count < given
+  pub below : (unpack fields).count < given
 
 -- What the loads of a conversion come to, which begins with the turn word w.
 pub data Converts (given w : ℕ) : List Load → Entry → Type 0 where

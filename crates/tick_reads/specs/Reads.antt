@@ -9,7 +9,8 @@ use Rattle.hand_words.specs.Words.{unpack}
 use Rattle.tick_reads.specs.declared.loads.Ask.{Ask}
 use Rattle.tick_reads.specs.declared.loads.Load.{Load}
 use Rattle.tick_reads.specs.declared.loads.Load.TheVariants.{Turn, Counter}
-use Rattle.tick_reads.specs.Ways.{Way, Whole, Light, Past, way_of, reading}
+use Rattle.clock_logs.specs.Legal.{Way, full, quick, past, way_of}
+use Rattle.tick_reads.specs.Ways.{reading}
 use Rattle.tick_reads.specs.Looks.{full_mark, fields_from, look}
 use Rattle.tick_reads.specs.Converts.{Converts}
 
@@ -47,9 +48,9 @@ pub data ReadsLight (ask : Ask) : List Load → Entry → Type 0 where
   mark_still : (w : ℕ) (fields : List ℕ) → length fields ≡ 15 → ReadsLight ask (Turn w ∷ look (w / 2) fields (full_mark (w / 2))) (Read (reading ask (w / 2) (unpack fields) 0))
 
 abbrev pub ReadsBy : Way → Ask → List Load → Entry → Type 0
-ReadsBy Whole ask loads e = ReadsWhole ask.kind loads e
-ReadsBy Light ask loads e = ReadsLight ask loads e
-ReadsBy Past ask loads e = (w : ℕ) × Converts ask.given w loads e
+ReadsBy full ask loads e = ReadsWhole ask.kind loads e
+ReadsBy quick ask loads e = ReadsLight ask loads e
+ReadsBy past ask loads e = (w : ℕ) × Converts ask.given w loads e
 
 -- the loads of a call, which begin with the turn word, come to this entry
 abbrev pub Reads : Ask → List Load → Entry → Type 0

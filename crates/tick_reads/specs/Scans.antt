@@ -6,7 +6,8 @@ use Rattle.hand_words.specs.Words.{unpack}
 use Rattle.tick_reads.specs.declared.loads.Ask.{Ask}
 use Rattle.tick_reads.specs.declared.loads.Load.{Load}
 use Rattle.tick_reads.specs.declared.loads.Load.TheVariants.{Turn, Field, Mark, Counter}
-use Rattle.tick_reads.specs.Ways.{Way, Whole, Light, Past, way_of, needs_even, reading}
+use Rattle.clock_logs.specs.Legal.{Way, full, quick, past, way_of}
+use Rattle.tick_reads.specs.Ways.{needs_even, reading}
 use Rattle.tick_reads.specs.Looks.{full_mark}
 
 -- How far the loads of a call have come along the order of a read.
@@ -79,9 +80,9 @@ opened true ask x = ends (Some (Again ask.kind x x)) (opens_at x)
 opened false ask x = opens_at x
 
 abbrev pub turn_again : Way → Ask → Scan → ℕ → Scan
-turn_again Whole ask s x = ends (turn_ends (has_fields s && (length s.counters == 1)) ask s x) s
-turn_again Light ask s x = ends None s
-turn_again Past ask s x = ends (turn_ends (s.good && s.line && (length s.counters == 1)) ask s x) s
+turn_again full ask s x = ends (turn_ends (has_fields s && (length s.counters == 1)) ask s x) s
+turn_again quick ask s x = ends None s
+turn_again past ask s x = ends (turn_ends (s.good && s.line && (length s.counters == 1)) ask s x) s
 
 abbrev pub turned : Bool → Ask → Scan → ℕ → Scan
 turned false ask s x = opened (needs_even (way_of ask.kind) && not (is_even x)) ask x
@@ -117,9 +118,9 @@ walks true ask s x = finds_mark (x == full_mark s.tick) ask s x
 walks false ask s x = ends None s
 
 abbrev pub mark_by : Way → Ask → Scan → ℕ → ℕ → Scan
-mark_by Whole ask s t x = ends None s
-mark_by Light ask s t x = ends (mark_ends (has_fields s && (t == s.tick)) ask s x) s
-mark_by Past ask s t x = walks (has_fields s && not s.line && (t == s.tick)) ask s x
+mark_by full ask s t x = ends None s
+mark_by quick ask s t x = ends (mark_ends (has_fields s && (t == s.tick)) ask s x) s
+mark_by past ask s t x = walks (has_fields s && not s.line && (t == s.tick)) ask s x
 
 -- a conversion past the newest tick asks the counter whether the past count was reached
 abbrev pub counts_back : Bool → Ask → Scan → ℕ → Scan
@@ -131,9 +132,9 @@ counter_back true ask s x = counts_back (nat_lt x ask.given) ask s x
 counter_back false ask s x = ends None s
 
 abbrev pub counter_by : Way → Ask → Scan → ℕ → Scan
-counter_by Whole ask s x = record s { begun = true; good = has_fields s; counters = s.counters ++ x ∷ []; answer = None }
-counter_by Light ask s x = ends None s
-counter_by Past ask s x = counter_back (s.good && s.line && (length s.counters == 0)) ask s x
+counter_by full ask s x = record s { begun = true; good = has_fields s; counters = s.counters ++ x ∷ []; answer = None }
+counter_by quick ask s x = ends None s
+counter_by past ask s x = counter_back (s.good && s.line && (length s.counters == 0)) ask s x
 
 -- fields are loaded in their order, of the tick that is looked at
 abbrev pub field_on : Scan → ℕ → ℕ → ℕ → Scan

@@ -5,29 +5,14 @@ use Rattle.clock_lines.specs.declared.readings.Kind.{Kind}
 use Rattle.clock_lines.specs.declared.readings.Kind.TheVariants as kind
 use Rattle.clock_lines.specs.declared.readings.Reading.{Reading}
 use Rattle.clock_lines.specs.Readings.{reading_at}
+use Rattle.clock_logs.specs.Legal.{Way, full, quick, past}
 use Rattle.tick_reads.specs.declared.loads.Ask.{Ask}
-
--- Whole: at the counter, between two equal turn words. Light: by the mark of the tick alone. Past: by the
--- tick that was current at a past count
-pub data Way : Type 0 where
-  Whole : Way
-  Light : Way
-  Past : Way
-
-abbrev pub way_of : Kind → Way
-way_of kind.Abs = Whole
-way_of kind.Mono = Whole
-way_of kind.Uptime = Whole
-way_of kind.Fast = Light
-way_of kind.Diff = Light
-way_of kind.Back = Past
-way_of kind.Utc = Whole
 
 -- a full read is over at once where a windup stands open
 abbrev pub needs_even : Way → Bool
-needs_even Whole = true
-needs_even Light = false
-needs_even Past = false
+needs_even full = true
+needs_even quick = false
+needs_even past = false
 
 -- the count that is read at, where the counter stood at c
 abbrev pub count_by : Kind → ℕ → Hands → ℕ → ℕ

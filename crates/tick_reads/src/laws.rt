@@ -11,8 +11,8 @@ pub fn loads_decide()
     ensures told { (ask : _) (loads : _) (e : _) → decided ask loads ≡ Some e → Reads ask loads e }
 {}
 
-/// The law that a full read which succeeds found the turn word even and the same at its end, and answers by
-/// the fields and the one counter that it loaded between.
+/// The law that a full read which succeeds found the turn word even and the same at its end, and
+/// answers by the fields and the one counter that it loaded between.
 pub fn full_reads_stood()
     ensures { (k : _) (loads : _) (r : _) → ReadsWhole k loads (Read r) → StoodStill k loads r }
 {}

@@ -1,5 +1,6 @@
-//! The reads of a clock that is published word by word: what one call asks for, which words it loads in which
-//! order, and what these loads decide. Nothing here knows of memory, of threads or of the journal of ticks.
+//! The reads of a clock that is published word by word: what one call asks for, which words it loads in
+//! which order, and what these loads decide. Nothing here knows of memory, of threads or of the journal
+//! of ticks.
 #![tactic(auto)]
 
 mod laws;

@@ -1,5 +1,5 @@
 -- The journal after the turn word is closed.
-use Rattle.std.proofs.Common.{◌≡◌, ℕ, ◌+◌, List, [], ◌∷◌, ◌++◌, length, slice_get, Some, ap, ◌∙◌, subst}
+use Rattle.std.proofs.Common.{◌≡◌, ℕ, ◌+◌, [], ◌∷◌, ◌++◌, length, slice_get, Some, ap, ◌∙◌, subst}
 use Rattle.atomic_table.specs.Table.{Me}
 use Rattle.ff_hands.specs.Journals.{Follows, IsJournal}
 use Rattle.ff_hands.specs.Ranges.{FitsWords}

@@ -8,8 +8,8 @@ use Rattle.atomic_table.specs.Table.{Me, step, keeps, stepped, Allows, Splits, J
 use Rattle.atomic_table.proofs.Lists.{at_set, at_snoc, set_here, set_else, set_again, at_longer, at_last}
 use Rattle.ff_hands.specs.declared.hands.Hands.{Hands}
 use Rattle.tick_reads.specs.declared.loads.Ask.{Ask}
-use Rattle.tick_views.specs.declared.views.Kept.{Kept}
-use Rattle.tick_views.specs.declared.views.Noted.{Noted}
+use Rattle.clock_logs.specs.declared.noted.Kept.{Kept}
+use Rattle.clock_logs.specs.declared.noted.Noted.{Noted}
 use Rattle.tick_views.specs.declared.views.PenView.{PenView}
 use Rattle.tick_views.specs.declared.views.PassView.{PassView}
 use Rattle.tick_views.specs.declared.views.View.{View}
@@ -20,7 +20,8 @@ use Rattle.hand_words.specs.Words.{pack, unpack}
 use Rattle.hand_words.proofs.Back.{length-pack}
 use Rattle.tick_table.proofs.Lists.{to_some, to_Some}
 use Rattle.tick_table.proofs.Numbering.{numbers_set, numbers_snoc, numbers_pass, numbers_kept}
-use Rattle.tick_reads.specs.Ways.{Way, Whole, Light, Past, way_of, needs_even}
+use Rattle.clock_logs.specs.Legal.{Way, full, quick, past, way_of}
+use Rattle.tick_reads.specs.Ways.{needs_even}
 use Rattle.tick_reads.specs.Looks.{full_mark}
 use Rattle.tick_reads.specs.Scans.{Scan, has_fields}
 use Rattle.tick_table.specs.Rule.{turn_of, mark_at, field_at, marks_of, world_of, SlotIs, CounterStands, Stands, Tops, number_in, Numbers, Rule}
@@ -59,8 +60,8 @@ views_step s r ws id v w same far at old new number fits = subst (λ (xs : List 
   stands = r.stands;
   tops = tops_set s.views r.pen r.pen (get_or s.words 1 0) r.crank id v w at old new refl refl r.tops;
   numbers = numbers_set s.views id v w at number r.pen.kept r.pen.kept r.pen.made r.pen.made refl refl r.numbers;
-  each = λ j u e past. ⊎_elim (λ (x : (j ≡ id) × (w ≡ u)). subst (λ (y : View). Fits (world_of s.words r.pen r.last) y) x.1 fits)
-      (λ (x : (j ≢ id) × (get_elem? s.views j ≡ some u)). r.each j u x.1 past) (at_set s.views id j w u e);
+  each = λ j u e beyond. ⊎_elim (λ (x : (j ≡ id) × (w ≡ u)). subst (λ (y : View). Fits (world_of s.words r.pen r.last) y) x.1 fits)
+      (λ (x : (j ≢ id) × (get_elem? s.views j ≡ some u)). r.each j u x.1 beyond) (at_set s.views id j w u e);
 }
 
 -- a load, after which the pass knows v'
@@ -70,7 +71,7 @@ load_step s r id i v v' number at fits = views_step s r (set s.words i (get_or s
 module _ (w : World) where
   -- the mark of tick m's slot, where it is not m's own, is of tick m + 10 or a later one of that slot
   later_mark : (words : List ℕ) (n : ℕ) (b : Bool) (m : ℕ) (h : Hands) (s : SlotIs words n b m h) → w.marks m ≡ marks_of words m → w.marks m ≢ full_mark m → m ≤ n → n + cond b 1 0 ≤ top_tick w.turn → (k : ℕ) × IsMark (w.marks m) k × (m + 10 ≤ k) × (k % 10 ≡ m % 10) × (k ≤ top_tick w.turn)
-  later_mark words n b m h s is other past up = let from = s.from in let same = s.same in let top = s.top in
+  later_mark words n b m h s is other beyond up = let from = s.from in let same = s.same in let top = s.top in
       let ne : s.k ≢ m = λ e. other (is ∙ (s.whole (omega arith) ∙ ap full_mark e)) in
       (s.k, subst (λ v. IsMark v s.k) (sym is) s.mark, omega arith, s.same, le_trans top up)
 
@@ -111,7 +112,7 @@ module _ (s : St) (r : Rule s) where
     last = ap (λ k. k + 1) (half r.pen.winding) ∙ sym r.stands.long;
     closed_bound = λ even. ap (λ l. or_else l (get_or s.words 1 0)) (r.stands.counter.closed (still r.pen.winding even));
     closed_mark = λ even. subst (λ k. marks_of s.words k ≡ full_mark k) (sym (half r.pen.winding)) (last_mark (still r.pen.winding even));
-    past = λ m h e. le_trans (r.stands.counter.ticks m h e) r.stands.counter.bound;
+    reached = λ m h e. le_trans (r.stands.counter.ticks m h e) r.stands.counter.bound;
   }
 
   reaches : (marked winding : Bool) → (marked ≡ true → winding ≡ true) → r.last + cond marked 1 0 ≤ top_tick (2 * r.last + cond winding 1 0)
@@ -123,7 +124,7 @@ module _ (s : St) (r : Rule s) where
   pack_at h k small = read_at (pack h) k (omega (arith, length-pack h))
 
   slot_is : (m : ℕ) (h : Hands) (k : ℕ) → k < 15 → marks_of s.words m ≡ full_mark m → get_elem? r.pen.journal m ≡ some h → get_elem? (pack h) k ≡ some (get_or s.words (field_at m k) 0)
-  slot_is m h k less full at = let t = r.stands.slots.slots m h at in
+  slot_is m h k less is_full at = let t = r.stands.slots.slots m h at in
       let k-is : t.k ≡ m = ⊎_elim (λ (odd : marks_of s.words m ≡ 2 * t.k + 1). absurd (omega arith)) (λ (even : marks_of s.words m ≡ 2 * t.k + 2). omega arith) t.mark in
       pack_at h k less ∙ ap some (sym (t.fields k-is k (get_or (pack h) k 0) (pack_at h k less)))
 
@@ -138,9 +139,9 @@ module _ (s : St) (r : Rule s) where
   is_read t h xs is at = ap unpack is ∙ r.stands.back t h at
 
   all_known : (y : Way) (ask : Ask) → way_of ask.kind ≡ y → (seen : ℕ) (log : List Noted) (z : Scan) → seen ≤ length r.pen.journal → FitsCall (world_of s.words r.pen r.last) seen log y ask z → LearnsAll ask z (turn_of r.pen r.last)
-  all_known Whole ask e seen log z in-J f whole is = let h = full_read (world_of s.words r.pen r.last) r.stands.back sane ask seen log z in-J f ((λ i. needs_even (sym e i) && has_fields z && (length z.counters == 1)) ∙ whole) is in (h.0, h.1, is_read z.tick h.0 z.fields h.1 h.2, sound_at z.tick h.0 h.2, h.3)
-  all_known Light ask e seen log z in-J f whole is = absurd (true≢false (sym whole ∙ (λ i. needs_even (e i) && has_fields z && (length z.counters == 1))))
-  all_known Past ask e seen log z in-J f whole is = absurd (true≢false (sym whole ∙ (λ i. needs_even (e i) && has_fields z && (length z.counters == 1))))
+  all_known full ask e seen log z in-J f whole is = let h = full_read (world_of s.words r.pen r.last) r.stands.back sane ask seen log z in-J f ((λ i. needs_even (sym e i) && has_fields z && (length z.counters == 1)) ∙ whole) is in (h.0, h.1, is_read z.tick h.0 z.fields h.1 h.2, sound_at z.tick h.0 h.2, h.3)
+  all_known quick ask e seen log z in-J f whole is = absurd (true≢false (sym whole ∙ (λ i. needs_even (e i) && has_fields z && (length z.counters == 1))))
+  all_known past ask e seen log z in-J f whole is = absurd (true≢false (sym whole ∙ (λ i. needs_even (e i) && has_fields z && (length z.counters == 1))))
 
 module _ (slots id : ℕ) (v : PassView) where
   learns : (s : St) (r : Rule s) → get_elem? s.views id ≡ some (Pass v) → LearnsTurn v (turn_of r.pen r.last)
@@ -184,7 +185,7 @@ module _ (slots id : ℕ) (v : PassView) where
     keeps,
     tt,
     load_step s r id (field_at m k) v (field_loaded k x v) refl at (field_fits (world_of s.words r.pen r.last) r.stands.back v k x (fits_at s r id v at) calling
-        (subst (λ j. (h : Hands) → marks_of s.words j ≡ full_mark j → get_elem? r.pen.journal j ≡ some h → get_elem? (pack h) k ≡ some x) m-is (λ h full here. slot_is s r m h k small full here))),
+        (subst (λ j. (h : Hands) → marks_of s.words j ≡ full_mark j → get_elem? r.pen.journal j ≡ some h → get_elem? (pack h) k ≡ some x) m-is (λ h is_full here. slot_is s r m h k small is_full here))),
     λ i. (Pass (field_loaded (which i) x v), []),
   )
 
@@ -194,7 +195,7 @@ module _ (slots id : ℕ) (v : PassView) where
     keeps,
     tt,
     load_step s r id (mark_at m) v (mark_loaded x v) refl at (mark_fits (world_of s.words r.pen r.last) r.stands.back (to_some r.pen.journal 0 cold r.stands.legal.first) (later s r) v f calling),
-    (refl, λ whole full. let h = whole_hands (world_of s.words r.pen r.last) r.stands.back v.seen v.entries (way_of v.ask.kind) v.ask (scan_of v) f.seen (f.call calling) whole full in (h.0, h.1, is_read s r m h.0 (scan_of v).fields h.1 h.2, sound_at s r m h.0 h.2)),
+    (refl, λ whole is_full. let h = whole_hands (world_of s.words r.pen r.last) r.stands.back v.seen v.entries (way_of v.ask.kind) v.ask (scan_of v) f.seen (f.call calling) whole is_full in (h.0, h.1, is_read s r m h.0 (scan_of v).fields h.1 h.2, sound_at s r m h.0 h.2)),
   )
 
 -- the pen cuts a seat off
@@ -404,8 +405,8 @@ cranks slots id k to few s r _ at _ = let c : ℕ = get_or s.words 1 0 in let c'
           only = λ j q e. ⊎_elim (λ (x : (j ≡ id) × (w' ≡ Crank q)). (o.0, x.0)) (λ (x : (j ≢ id) × (get_elem? s.views j ≡ some (Crank q))). let z = r.tops.only j q x.1 in (z.0, z.1 ∙ sym o.1)) (at_set s.views id j w' (Crank q) e);
         };
         numbers = numbers_set s.views id (Crank k) w' at refl p.kept p.kept p.made p.made refl refl r.numbers;
-        each = λ j u e past. ⊎_elim (λ (x : (j ≡ id) × (w' ≡ u)). subst (λ (y : View). Fits (world_of ws p r.last) y) x.1 tt)
-            (λ (x : (j ≢ id) × (get_elem? s.views j ≡ some u)). grow (world_of s.words p r.last) (world_of ws p r.last) goes u (r.each j u x.1 past)) (at_set s.views id j w' u e);
+        each = λ j u e beyond. ⊎_elim (λ (x : (j ≡ id) × (w' ≡ u)). subst (λ (y : View). Fits (world_of ws p r.last) y) x.1 tt)
+            (λ (x : (j ≢ id) × (get_elem? s.views j ≡ some u)). grow (world_of s.words p r.last) (world_of ws p r.last) goes u (r.each j u x.1 beyond)) (at_set s.views id j w' u e);
       },
       (refl, reached, small),
     )

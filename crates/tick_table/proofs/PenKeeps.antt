@@ -9,13 +9,12 @@ use lib.Seq.{set-get_or}
 use Rattle.atomic_table.specs.Table.{State, Me, step, keeps, stepped, Allows, opening}
 use Rattle.atomic_table.proofs.Lists.{at_set, set_here, set_else, at_last, at_snoc, at_longer}
 use Rattle.ff_hands.specs.declared.hands.Hands.{Hands}
-use Rattle.tick_reads.specs.declared.loads.Ask.{Ask}
-use Rattle.tick_views.specs.declared.views.Kept.{Kept}
+use Rattle.clock_logs.specs.declared.noted.Kept.{Kept}
 use Rattle.tick_views.specs.declared.views.PenView.{PenView}
 use Rattle.tick_views.specs.declared.views.View.{View}
 use Rattle.tick_views.specs.declared.views.View.TheVariants.{Pen, Pass, Crank, Note, Spent}
 use Rattle.ff_hands.specs.Windups.{cold}
-use Rattle.ff_hands.specs.Journals.{Follows, IsJournal, IsSound}
+use Rattle.ff_hands.specs.Journals.{Follows, IsJournal}
 use Rattle.hand_words.specs.Words.{pack, unpack}
 use Rattle.hand_words.proofs.Back.{length-pack, unpack-pack}
 use Rattle.hand_words.proofs.Leaps.{sound-leap}
@@ -100,7 +99,7 @@ goes_same J t t' M M' c c' b b' m m' up marks more bound made = record {
   marks = marks;
   counter = more;
   made = made;
-  next = λ h at. let past = in_list J (length J) h at in absurd (omega arith);
+  next = λ h at. let beyond = in_list J (length J) h at in absurd (omega arith);
   bound = λ _. bound;
 }
 
@@ -399,47 +398,47 @@ closes : (slots : ℕ) (p : PenView) (n : ℕ) (h : Hands) → p.winding ≡ tru
     → Allows Rule slots 0 (Pen p, []) 0 (λ _. 2 * n + 2) (λ _. Closes (step slots 0 (2 * n + 2) 0 none) (Pen p, []) (2 * n + 2))
 closes slots p n h opened is-set long room stored ranges loaded next s r _ at _ = let legal : IsJournal p.journal = subst (λ (q : PenView). IsJournal q.journal) (pen_same r.pen p (sym r.seated ∙ at)) r.stands.legal in
     let again : unpack (pack h) ≡ h = can_be_read p.journal n h long legal next ranges in let is : unpack p.stored ≡ h = ap unpack stored ∙ again in let longer = length-append p.journal (unpack p.stored ∷ []) in let ws : List ℕ = set s.words 0 (2 * n + 2) in let low : 0 < 2 = omega arith in (
-  Pen (turn_closed p),
-  keeps,
-  tt,
-  pen_step s r p (turn_closed p) 0 (2 * n + 2) at refl refl (λ k crank f tops. let same : k ≡ n = one_last k n (sym f.long ∙ long) in let f' : Stands s.words p n = subst (Stands s.words p) same f in let wide = f'.wide in
-      let c : ℕ = get_or s.words 1 0 in let c' = counter_stays s.words 0 (2 * n + 2) (λ e. omega arith) in let count-is : or_else p.loaded c ≡ h.count = ap (λ l. or_else l c) loaded in
-      let was : turn_of p k ≡ 2 * n + 1 = rw (opened, same) (omega arith) in let up : turn_of p k ≤ 2 * (n + 1) + 0 = omega arith in
-      let bound : or_else p.loaded c ≤ (unpack p.stored).count = subst (λ (g : Hands). or_else p.loaded c ≤ g.count) (sym is) (subst (λ y. or_else p.loaded c ≤ y) count-is (le_refl (or_else p.loaded c))) in
-      let keeps_mark = λ (m : ℕ). low_keeps_mark s.words wide 0 m (2 * n + 2) low in let old = λ (m : ℕ) (z : m < length p.journal) (e : marks_of ws m ≡ full_mark m). sym (keeps_mark m) ∙ e in let done = f'.slots.finished is-set in
-      let goes = goes_on p.journal (unpack p.stored) (turn_of p k) (2 * (n + 1) + 0) (marks_of s.words) (marks_of ws) c (get_or ws 1 0) (or_else p.loaded c) (get_or ws 1 0) p.made up old (subst (λ y. c ≤ y) (sym c') (le_refl c)) bound in (
-        n + 1,
-        goes,
-        record {
-          wide = length-set s.words 0 (2 * n + 2) ∙ wide;
-          long = omega arith;
-          few = omega arith;
-          turn = get_or-set_same s.words 0 (2 * n + 2) 0 (omega arith) ∙ omega arith;
-          slots = record {
-            slots = λ m g e. ⊎_elim (λ (there : get_elem? p.journal m ≡ some g). closed_slot s.words p n f' is-set ws m g there (keeps_mark m) (λ i _. low_keeps_field s.words wide 0 m i (2 * n + 2) low))
-                (λ (new : (m ≡ length p.journal) × (unpack p.stored ≡ g)). subst (λ (z : ℕ × Hands). SlotIs ws (n + 1) false z.0 z.1) (λ i. (sym (new.0 ∙ long) i, (sym is ∙ new.1) i)) (new_slot s.words p n h f' is-set stored ws (keeps_mark (n + 1)) (λ i. low_keeps_field s.words wide 0 (n + 1) i (2 * n + 2) low)))
-                (at_end p.journal (unpack p.stored) g m e);
-            opened = λ e. absurd (true≢false (sym e));
-            started = λ e. absurd (true≢false (sym e));
-            finished = λ e. absurd (true≢false (sym e));
-            stored = λ e. absurd (true≢false (sym e));
-          };
-          counter = subst (λ y. CounterStands y (turn_closed p)) (sym c') record {
-            small = f.counter.small;
-            ticks = λ m g e. ⊎_elim (λ (there : get_elem? p.journal m ≡ some g). le_trans (f.counter.ticks m g there) f.counter.bound)
-                (λ (new : unpack p.stored ≡ g). subst (λ (x : Hands). x.count ≤ c) (sym is ∙ new) (subst (λ y. y ≤ c) count-is f.counter.bound)) (at_snoc p.journal (unpack p.stored) g m e);
-            bound = le_refl c;
-            counted = f.counter.counted;
-            closed = λ _. refl;
-          };
-          legal = legal_more p.journal n (unpack p.stored) long f'.legal (λ g e. subst (Follows g) (sym is) (next g e));
-          back = back_more p.journal (unpack p.stored) f'.back (subst (λ (x : Hands). unpack (pack x) ≡ x) (sym is) again);
-          kept = grow_kept (world_of s.words p k) (world_of ws (turn_closed p) (n + 1)) goes p.kept f.kept;
-        },
-        subst (λ y. Tops (set s.views 0 (Pen (turn_closed p))) (turn_closed p) y crank) (sym c') (tops_set s.views p (turn_closed p) c crank 0 (Pen p) (Pen (turn_closed p)) at tt tt refl refl tops),
-      )),
-  (refl, legal),
-)
+      Pen (turn_closed p),
+      keeps,
+      tt,
+      pen_step s r p (turn_closed p) 0 (2 * n + 2) at refl refl (λ k crank f tops. let same : k ≡ n = one_last k n (sym f.long ∙ long) in let f' : Stands s.words p n = subst (Stands s.words p) same f in let wide = f'.wide in
+          let c : ℕ = get_or s.words 1 0 in let c' = counter_stays s.words 0 (2 * n + 2) (λ e. omega arith) in let count-is : or_else p.loaded c ≡ h.count = ap (λ l. or_else l c) loaded in
+          let was : turn_of p k ≡ 2 * n + 1 = rw (opened, same) (omega arith) in let up : turn_of p k ≤ 2 * (n + 1) + 0 = omega arith in
+          let bound : or_else p.loaded c ≤ (unpack p.stored).count = subst (λ (g : Hands). or_else p.loaded c ≤ g.count) (sym is) (subst (λ y. or_else p.loaded c ≤ y) count-is (le_refl (or_else p.loaded c))) in
+          let keeps_mark = λ (m : ℕ). low_keeps_mark s.words wide 0 m (2 * n + 2) low in let old = λ (m : ℕ) (z : m < length p.journal) (e : marks_of ws m ≡ full_mark m). sym (keeps_mark m) ∙ e in let done = f'.slots.finished is-set in
+          let goes = goes_on p.journal (unpack p.stored) (turn_of p k) (2 * (n + 1) + 0) (marks_of s.words) (marks_of ws) c (get_or ws 1 0) (or_else p.loaded c) (get_or ws 1 0) p.made up old (subst (λ y. c ≤ y) (sym c') (le_refl c)) bound in (
+            n + 1,
+            goes,
+            record {
+              wide = length-set s.words 0 (2 * n + 2) ∙ wide;
+              long = omega arith;
+              few = omega arith;
+              turn = get_or-set_same s.words 0 (2 * n + 2) 0 (omega arith) ∙ omega arith;
+              slots = record {
+                slots = λ m g e. ⊎_elim (λ (there : get_elem? p.journal m ≡ some g). closed_slot s.words p n f' is-set ws m g there (keeps_mark m) (λ i _. low_keeps_field s.words wide 0 m i (2 * n + 2) low))
+                    (λ (new : (m ≡ length p.journal) × (unpack p.stored ≡ g)). subst (λ (z : ℕ × Hands). SlotIs ws (n + 1) false z.0 z.1) (λ i. (sym (new.0 ∙ long) i, (sym is ∙ new.1) i)) (new_slot s.words p n h f' is-set stored ws (keeps_mark (n + 1)) (λ i. low_keeps_field s.words wide 0 (n + 1) i (2 * n + 2) low)))
+                    (at_end p.journal (unpack p.stored) g m e);
+                opened = λ e. absurd (true≢false (sym e));
+                started = λ e. absurd (true≢false (sym e));
+                finished = λ e. absurd (true≢false (sym e));
+                stored = λ e. absurd (true≢false (sym e));
+              };
+              counter = subst (λ y. CounterStands y (turn_closed p)) (sym c') record {
+                small = f.counter.small;
+                ticks = λ m g e. ⊎_elim (λ (there : get_elem? p.journal m ≡ some g). le_trans (f.counter.ticks m g there) f.counter.bound)
+                    (λ (new : unpack p.stored ≡ g). subst (λ (x : Hands). x.count ≤ c) (sym is ∙ new) (subst (λ y. y ≤ c) count-is f.counter.bound)) (at_snoc p.journal (unpack p.stored) g m e);
+                bound = le_refl c;
+                counted = f.counter.counted;
+                closed = λ _. refl;
+              };
+              legal = legal_more p.journal n (unpack p.stored) long f'.legal (λ g e. subst (Follows g) (sym is) (next g e));
+              back = back_more p.journal (unpack p.stored) f'.back (subst (λ (x : Hands). unpack (pack x) ≡ x) (sym is) again);
+              kept = grow_kept (world_of s.words p k) (world_of ws (turn_closed p) (n + 1)) goes p.kept f.kept;
+            },
+            subst (λ y. Tops (set s.views 0 (Pen (turn_closed p))) (turn_closed p) y crank) (sym c') (tops_set s.views p (turn_closed p) c crank 0 (Pen p) (Pen (turn_closed p)) at tt tt refl refl tops),
+          )),
+      (refl, legal),
+    )
 
 -- the pen loads the counter
 bound_after : (b : Bool) (c : ℕ) → or_else (loaded_if b c) c ≡ c
@@ -458,7 +457,7 @@ own_counter : (s : St) (r : Rule s) (p : PenView) → get_elem? s.views 0 ≡ so
 own_counter s r p at = let same : r.pen ≡ p = pen_same r.pen p (sym r.seated ∙ at) in let c : ℕ = get_or s.words 1 0 in
     let stands : Stands s.words p r.last = subst (λ (q : PenView). Stands s.words q r.last) same r.stands in
     let tops : Tops s.views p c r.crank = subst (λ (q : PenView). Tops s.views q c r.crank) same r.tops in
-    record { top = top_below s.views p c r.crank p.out refl tops; home = tops.home; past = λ m h e. le_trans (stands.counter.ticks m h e) stands.counter.bound; small = stands.counter.small; later = stands.counter.counted }
+    record { top = top_below s.views p c r.crank p.out refl tops; home = tops.home; reached = λ m h e. le_trans (stands.counter.ticks m h e) stands.counter.bound; small = stands.counter.small; later = stands.counter.counted }
 
 counts : (slots : ℕ) (p : PenView) (n : ℕ) → length p.journal ≡ n + 1 → Allows Rule slots 0 (Pen p, []) 1 (λ x. x) (LoadsOwnCounter (step slots 1 0 0 none) (Pen p, []))
 counts slots p n long s r _ at _ = let c : ℕ = get_or s.words 1 0 in let p' = pen_counted c p in let same-words = set-get_or s.words 1 0 in

@@ -7,7 +7,7 @@ use Rattle.ff_hands.specs.Journals.{IsJournal}
 use Rattle.ff_hands.specs.declared.hands.Hands.{Hands}
 use Rattle.hand_words.specs.Words.{pack, unpack}
 use Rattle.tick_reads.specs.Looks.{full_mark}
-use Rattle.tick_views.specs.declared.views.Kept.{Kept}
+use Rattle.clock_logs.specs.declared.noted.Kept.{Kept}
 use Rattle.tick_views.specs.declared.views.PenView.{PenView}
 use Rattle.tick_views.specs.declared.views.View.{View}
 use Rattle.tick_views.specs.declared.views.View.TheVariants.{Pen, Pass, Crank, Note, Spent}

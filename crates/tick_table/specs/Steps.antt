@@ -7,10 +7,11 @@ use Rattle.ff_hands.specs.Journals.{IsJournal}
 use Rattle.ff_hands.specs.declared.hands.Hands.{Hands}
 use Rattle.hand_words.specs.Words.{pack, unpack}
 use Rattle.tick_reads.specs.declared.loads.Ask.{Ask}
-use Rattle.tick_reads.specs.Ways.{way_of, needs_even}
+use Rattle.clock_logs.specs.Legal.{way_of}
+use Rattle.tick_reads.specs.Ways.{needs_even}
 use Rattle.tick_reads.specs.Looks.{full_mark}
 use Rattle.tick_reads.specs.Scans.{Scan, has_fields, counter_of}
-use Rattle.tick_views.specs.declared.views.Kept.{Kept}
+use Rattle.clock_logs.specs.declared.noted.Kept.{Kept}
 use Rattle.tick_views.specs.declared.views.PenView.{PenView}
 use Rattle.tick_views.specs.declared.views.PassView.{PassView}
 use Rattle.tick_views.specs.declared.views.View.{View}
@@ -68,7 +69,7 @@ LoadsCounter st m r m' = (m' ≡ (on_pass (counter_loaded r) m.0, m.1)) × AllBe
 pub record LearnsCounter (p : PenView) (c : ℕ) : Type 0 where
   pub top : p.top ≤ c
   pub home : p.out ≡ false → c ≡ p.top
-  pub past : (m : ℕ) (h : Hands) → get_elem? p.journal m ≡ some h → h.count ≤ c
+  pub reached : (m : ℕ) (h : Hands) → get_elem? p.journal m ≡ some h → h.count ≤ c
   pub small : c < 2 ^ 62
   pub later : AllBelow c p.counters
 

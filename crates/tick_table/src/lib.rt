@@ -1,9 +1,10 @@
-//! The memory that the publisher of a clock and its readers share: 162 words, a rule over them that holds between
-//! any two atomic steps of any threads, and one method for each step that anyone makes.
+//! The memory that the publisher of a clock and its readers share: 162 words, a rule over them that
+//! holds between any two atomic steps of any threads, and one method for each step that anyone makes.
 //!
-//! Who makes steps has a seat. The pen is the publisher, a pass is a reader, the crank may raise the counter beside
-//! the pen, and a note carries what its maker had seen. A seat knows what it has seen (its view), and each method
-//! says exactly what its view gains. The words, and which step stands for what, are told in `docs/PUBLICATION.md`.
+//! Who makes steps has a seat. The pen is the publisher, a pass is a reader, the crank may raise the
+//! counter beside the pen, and a note carries what its maker had seen. A seat knows what it has seen
+//! (its view), and each method says exactly what its view gains. The words, and which step stands for
+//! what, are told in `docs/PUBLICATION.md`.
 #![tactic(auto)]
 
 mod crank;

@@ -25,8 +25,9 @@ use tick_views::View;
 
 /// The seat of the publisher, with a share of the table. Contracts see its table and its view.
 ///
-/// A windup makes its steps in one order: `start_turn`, `load_counter`, `start_mark`, `store_field` fifteen times,
-/// `set_mark`, `close_turn`, all for the tick after the newest. The journal gains the tick at the last of them.
+/// A windup makes its steps in one order: `start_turn`, `load_counter`, `start_mark`, `store_field`
+/// fifteen times, `set_mark`, `close_turn`, all for the tick after the newest. The journal gains the
+/// tick at the last of them.
 #[derive(Drop)]
 pub struct PenSeat {
     table: Arc<Words, Global>,
@@ -38,23 +39,19 @@ pub struct PenSeat {
 }
 
 impl Model for PenSeat {
-    ghost use Rattle.std.specs.Prelude.{◌≡◌, ◌+◌, [], length, not, IfSome};
-    ghost use Rattle.std.specs.Option.{is_some};
     ghost use Rattle.std.specs.Arc.{arc_value};
-    ghost use Rattle.tick_table.specs.Sees.{PenSees};
+    ghost use Rattle.tick_table.specs.Sees.{PenSees, IsPen};
+    ghost use Rattle.tick_views.specs.Views.{pen_of};
 
     ghost Value = { PenSees };
 
-    ghost use Rattle.tick_views.specs.Views.{pen_of};
-    ghost use Rattle.tick_views.specs.declared.views.View.TheVariants.{Pen};
-
     ghost view = { λ s. record { table = s.seat.table_id; view = pen_of s.seat.me.0 } };
 
-    ghost invariant = { λ s. (s.seat.table_id ≡ (arc_value s.table).shared.table_id) × (s.seat.table_id.words ≡ 162) × (s.seat.id ≡ 0) × (s.seat.me ≡ (Pen (pen_of s.seat.me.0), [])) × (length (pen_of s.seat.me.0).journal ≡ s.last + 1) × (is_some s.spare ≡ not (pen_of s.seat.me.0).out) × IfSome s.spare (λ t. t ≡ s.seat.table_id) };
+    ghost invariant = { λ s. IsPen s.seat.table_id (arc_value s.table).shared.table_id s.seat.id s.seat.me s.last s.spare };
 }
 
-// The words at the start: the turn word and the counter are 0, and slot 0 has the full mark of tick 0 and the cold
-// hands, whose packed word is 261.
+// The words at the start: the turn word and the counter are 0, and slot 0 has the full mark of tick 0
+// and the cold hands, whose packed word is 261.
 const FIRST: [u64; 162] = [
     0, 0, 2, 0, 0, 0, 0, 0, 0, 0, 0, 0, 0, 0, 0, 0, 0, 261, 0, 0, 0, 0, 0, 0, 0, 0, 0, 0, 0, 0, 0,
     0, 0, 0, 0, 0, 0, 0, 0, 0, 0, 0, 0, 0, 0, 0, 0, 0, 0, 0, 0, 0, 0, 0, 0, 0, 0, 0, 0, 0, 0, 0, 0,
@@ -107,8 +104,8 @@ impl PenSeat {
             .store::<StartMark>(&mut self.seat, mark, 2 * tick + 1);
     }
 
-    /// Stores field `field` of tick `tick`, which is the next one. The fields are stored in their order, from 0 to
-    /// 14.
+    /// Stores field `field` of tick `tick`, which is the next one. The fields are stored in their
+    /// order, from 0 to 14.
     pub fn store_field(&mut self, tick: u64, field: u32, word: u64)
         requires winding { (self.old.view.marked ≡ true) × (self.old.view.set ≡ false) }
         requires open { self.old.view.winding ≡ true }
@@ -138,8 +135,8 @@ impl PenSeat {
             .store::<SetMark>(&mut self.seat, mark, 2 * tick + 2);
     }
 
-    /// Closes the turn word, by which the tick is published. The hands are what a windup of the newest ones makes
-    /// at the counter that was loaded, and the stored words are theirs.
+    /// Closes the turn word, by which the tick is published. The hands are what a windup of the newest
+    /// ones makes at the counter that was loaded, and the stored words are theirs.
     pub fn close_turn(&mut self, h: &Hands)
         requires winding { (self.old.view.winding ≡ true) × (self.old.view.set ≡ true) }
         requires room { length self.old.view.journal < 2 ^ 62 }
@@ -158,8 +155,8 @@ impl PenSeat {
         self.last += 1;
     }
 
-    /// Loads the turn word. What the pen kept of the passes that it took in is then told to be legal over its
-    /// journal.
+    /// Loads the turn word. What the pen kept of the passes that it took in is then told to be legal
+    /// over its journal.
     pub fn load_turn(&mut self) -> u64
         ensures same { self.new ≡ self.old }
         ensures value { result ≡ turn_now self.old.view }
@@ -174,13 +171,11 @@ impl PenSeat {
         ensures view { self.new.view ≡ pen_counted result self.old.view }
         ensures learns { LearnsCounter self.old.view result }
     {
-        self.table
-            .shared
-            .load::<LoadOwnCounter>(&mut self.seat, 1)
+        self.table.shared.load::<LoadOwnCounter>(&mut self.seat, 1)
     }
 
-    /// Raises the counter to a count below 2^62, where it is not past it, by one step that takes the greater. The
-    /// answer is the counter then.
+    /// Raises the counter to a count below 2^62, where it is not past it, by one step that takes the
+    /// greater. The answer is the counter then.
     pub fn raise_counter(&mut self, to: u64) -> u64
         requires { to < 2 ^ 62 }
         ensures table { self.new.table ≡ self.old.table }

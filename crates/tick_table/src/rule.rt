@@ -1,4 +1,5 @@
-// The rule of the words, and what each step tells. These types name the definitions, and have no values.
+// The rule of the words, and what each step tells. These types name the definitions, and have no
+// values.
 ghost use Rattle.tick_reads.specs.declared.loads.Ask.{Ask};
 ghost use Rattle.tick_views.specs.Views.{no_ask};
 
@@ -59,8 +60,8 @@ impl Play<(), View> for CloseTurn {
     ghost then = { Closes };
 }
 
-// What a call asks for. The proof of the call picks it, since the step is a plain load, which has no operand: so a
-// reader writes no shared word.
+// What a call asks for. The proof of the call picks it, since the step is a plain load, which has no
+// operand: so a reader writes no shared word.
 pub(crate) trait Asking {
     ghost ask: { Ask };
 }

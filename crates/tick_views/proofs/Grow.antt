@@ -7,16 +7,17 @@ use lib.ListN.{get_elem?}
 use Rattle.ff_hands.specs.declared.hands.Hands.{Hands}
 use Rattle.clock_lines.specs.declared.readings.Entry.{Entry}
 use Rattle.clock_lines.specs.declared.readings.Entry.TheVariants.{Read, Again, TooOld, Ahead}
-use Rattle.tick_views.specs.declared.views.Noted.{Noted}
+use Rattle.clock_logs.specs.declared.noted.Noted.{Noted}
 use Rattle.tick_reads.specs.declared.loads.Ask.{Ask}
-use Rattle.tick_views.specs.declared.views.Kept.{Kept}
+use Rattle.clock_logs.specs.declared.noted.Kept.{Kept}
 use Rattle.tick_views.specs.declared.views.PassView.{PassView}
 use Rattle.tick_views.specs.declared.views.View.{View}
 use Rattle.tick_views.specs.declared.views.View.TheVariants.{Pen, Pass, Crank, Note, Spent}
-use Rattle.tick_reads.specs.Ways.{Way, Whole, Light, Past, way_of}
+use Rattle.clock_logs.specs.Legal.{Way, full, quick, past, way_of}
 use Rattle.tick_reads.specs.Looks.{full_mark}
 use Rattle.tick_reads.specs.Scans.{Scan}
-use Rattle.tick_views.specs.Worlds.{Goes, AllBelow, opening_of, FitsEntry, FitsLog, FitsKept, FitsCall, FitsPass, Fits, top_tick, World, IsTimely, FitsCount, FitsAgain, FitsTick, FitsKind, Crossed, Overtaken, counts_of}
+use Rattle.clock_logs.specs.Logs.{IsReadSince}
+use Rattle.tick_views.specs.Worlds.{Goes, AllBelow, opening_of, FitsEntry, FitsLog, FitsKept, FitsCall, FitsPass, Fits, top_tick, World, IsTimely, FitsCount, FitsAgain, FitsKind, Crossed, Overtaken, counts_of}
 
 module _ {A : Type 0} where
   pub at_shorter : (l m : List A) (i : ℕ) (a : A) → i < length l → get_elem? (l ++ m) i ≡ some a → get_elem? l i ≡ some a
@@ -52,9 +53,9 @@ module _ (w w' : World) (g : Goes w w') where
   }
 
   grow_count : (k : Way) (given n : ℕ) (h : Hands) (c : ℕ) → n < length w.journal → FitsCount w k given n h c → FitsCount w' k given n h c
-  grow_count Whole given n h c in-J f = (f.0, grow_timely n c in-J f.1)
-  grow_count Light given n h c in-J f = tt
-  grow_count Past given n h c in-J f = (f.0, grow_timely n given in-J f.1)
+  grow_count full given n h c in-J f = (f.0, grow_timely n c in-J f.1)
+  grow_count quick given n h c in-J f = tt
+  grow_count past given n h c in-J f = (f.0, grow_timely n given in-J f.1)
 
   grow_overtaken : (m a b : ℕ) → Overtaken w m a b → Overtaken w' m a b
   grow_overtaken m a b f = let c = f.1 in (f.0, (c.0, c.1, c.2, c.3, le_trans c.4 (half-up w.turn w'.turn g.turn)))
@@ -63,14 +64,14 @@ module _ (w w' : World) (g : Goes w w') where
   grow_crossed o a b f = (f.0, le_trans f.1 g.turn, f.2)
 
   grow_again : (k : Way) (o a b : ℕ) → FitsAgain w k o a b → FitsAgain w' k o a b
-  grow_again Whole o a b f = grow_crossed o a b f
-  grow_again Light o a b f = grow_overtaken (o / 2) a b f
-  grow_again Past o a b f = ⊎_elim (λ x. inl (grow_crossed o a b x)) (λ (x : (m : ℕ) × FitsTick Past m o × Overtaken w m a b). inr (x.0, x.1, grow_overtaken x.0 a b x.2)) f
+  grow_again full o a b f = grow_crossed o a b f
+  grow_again quick o a b f = grow_overtaken (o / 2) a b f
+  grow_again past o a b f = ⊎_elim (λ x. inl (grow_crossed o a b x)) (λ (x : (m : ℕ) × IsReadSince past m o × Overtaken w m a b). inr (x.0, x.1, grow_overtaken x.0 a b x.2)) f
 
   pub grow_entry : (o : ℕ) (e : Entry) → FitsEntry w o e → FitsEntry w' o e
   grow_entry o (Read r) f = record { ask = f.ask; hands = f.hands; counter = f.counter; at = g.on r.tick f.hands f.at; is = f.is; count = grow_count (way_of f.ask.kind) f.ask.given r.tick f.hands f.counter (in_list w.journal r.tick f.hands f.at) f.count; tick = f.tick }
   grow_entry o (Again k a b) f = grow_again (way_of k) o a b f
-  grow_entry o (TooOld c a) f = record { tick = f.tick; hands = f.hands; at = g.on f.tick f.hands f.at; is = f.is; past = f.past; later = f.later; some_tick = f.some_tick; reached = let r = f.reached in let l = g.longer in omega arith }
+  grow_entry o (TooOld c a) f = record { tick = f.tick; hands = f.hands; at = g.on f.tick f.hands f.at; is = f.is; not_after = f.not_after; later = f.later; some_tick = f.some_tick; reached = let r = f.reached in let l = g.longer in omega arith }
   grow_entry o (Ahead c a) f = f
 
   pub grow_log : (log : List Noted) → FitsLog w log → FitsLog w' log
@@ -86,9 +87,9 @@ module _ (w w' : World) (g : Goes w w') where
   grow_one_kept k f = record { seen = le_trans f.seen g.longer; counters = below_more w.counter w'.counter k.counters g.counter f.counters; log = grow_log k.entries f.log }
 
   grow_kind : (k : Way) (ask : Ask) (s : Scan) → s.tick ≤ s.first / 2 → s.first / 2 < length w.journal → FitsKind w k ask s → FitsKind w' k ask s
-  grow_kind Whole ask s near in-J f = f
-  grow_kind Light ask s near in-J f = f
-  grow_kind Past ask s near in-J f = record {
+  grow_kind full ask s near in-J f = f
+  grow_kind quick ask s near in-J f = f
+  grow_kind past ask s near in-J f = record {
     range = f.range;
     above = λ less h at. f.above less h (g.back (s.tick + 1) h (omega arith) at);
     top = λ line. let t = f.top line in (t.0, t.1, λ h at. t.2 h (g.back s.tick h (omega arith) at));

@@ -14,7 +14,7 @@ use Rattle.tick_reads.specs.declared.loads.Load.{Load}
 use Rattle.tick_reads.specs.declared.loads.Load.TheVariants.{Turn, Field, Mark, Counter}
 use Rattle.clock_lines.specs.declared.readings.Entry.{Entry}
 use Rattle.clock_lines.specs.declared.readings.Entry.TheVariants.{Again, TooOld, Ahead}
-use Rattle.tick_views.specs.declared.views.Noted.{Noted}
+use Rattle.clock_logs.specs.declared.noted.Noted.{Noted}
 use Rattle.clock_lines.specs.declared.readings.Kind.{Kind}
 use Rattle.clock_lines.specs.declared.readings.Kind.TheVariants as kind
 use Rattle.tick_views.specs.declared.views.PassView.{PassView}
@@ -23,10 +23,12 @@ use Rattle.ff_hands.specs.Windups.{cold}
 use Rattle.hand_words.specs.Words.{pack, unpack}
 use Rattle.hand_words.proofs.Back.{length-pack}
 use Rattle.tick_reads.proofs.Runs.{run-snoc}
-use Rattle.tick_reads.specs.Ways.{Way, Whole, Light, Past, way_of, needs_even, count_by}
+use Rattle.clock_logs.specs.Legal.{Way, full, quick, past, way_of}
+use Rattle.tick_reads.specs.Ways.{needs_even, count_by}
 use Rattle.tick_reads.specs.Looks.{full_mark}
 use Rattle.tick_reads.specs.Scans.{Scan, fresh, is_even, counter_of, read_by, has_fields, ends, at_turn, at_mark, turn_ends, mark_ends, opens_at, opened, turn_again, turned, goes_down, finds_top, finds_line, looks_at, finds_mark, walks, mark_by, counts_back, counter_back, counter_by, after, run}
-use Rattle.tick_views.specs.Worlds.{World, IsMark, IsTimely, FitsCount, FitsTick, Crossed, Overtaken, FitsAgain, FitsWalk, FitsKind, FitsMark, top_tick, AllBelow, Rises, opening_of, StartsWith, FitsEntry, FitsLog, FitsCall, FitsPass, count_if, counts_in, counts_of}
+use Rattle.clock_logs.specs.Logs.{IsReadSince}
+use Rattle.tick_views.specs.Worlds.{World, IsMark, IsTimely, FitsCount, Crossed, Overtaken, FitsAgain, FitsWalk, FitsKind, FitsMark, top_tick, AllBelow, Rises, opening_of, StartsWith, FitsEntry, FitsLog, FitsCall, FitsPass, count_if, counts_in, counts_of}
 use Rattle.tick_views.specs.Views.{settled, turn_loaded, counter_loaded, field_loaded, mark_loaded, call_begun, scan_of, undecided, gained, noted, mark_load}
 
 rises-snoc : (xs : List ℕ) (w : ℕ) → Rises xs → AllBelow w xs → Rises (xs ++ w ∷ [])
@@ -70,12 +72,12 @@ one_number : (l : List ℕ) → length l ≡ 1 → get_elem? l 0 ≡ some (get_o
 one_number [] e = absurd (omega arith)
 one_number (x ∷ xs) e = refl
 
--- the world at a load of a pass
+-- the parts of a world agree, as they do at each load of a pass
 pub record Agrees (w : World) : Type 0 where
   pub last : w.turn / 2 + 1 ≡ length w.journal
   pub closed_bound : w.turn % 2 ≡ 0 → w.bound ≡ w.counter
   pub closed_mark : w.turn % 2 ≡ 0 → w.marks (w.turn / 2) ≡ full_mark (w.turn / 2)
-  pub past : (m : ℕ) (h : Hands) → get_elem? w.journal m ≡ some h → h.count ≤ w.counter
+  pub reached : (m : ℕ) (h : Hands) → get_elem? w.journal m ≡ some h → h.count ≤ w.counter
 
 module _ (w : World) (back : (m : ℕ) (h : Hands) → get_elem? w.journal m ≡ some h → unpack (pack h) ≡ h) where
   reads : (t : ℕ) (h : Hands) (xs : List ℕ) → xs ≡ pack h → get_elem? w.journal t ≡ some h → unpack xs ≡ h
@@ -224,41 +226,41 @@ module _ (w : World) (back : (m : ℕ) (h : Hands) → get_elem? w.journal m ≡
     timely : (s : Scan) (c : ℕ) → AtLast s → c ≤ w.counter → IsTimely w (s.first / 2) c
     timely s c a le = let last = a.last in record { next = λ g at. let near = in_list w.journal (s.first / 2 + 1) g at in absurd (omega arith); last = λ _. subst (λ z. c ≤ z) (sym a.bound) le }
 
-    first_counter : (seen : ℕ) (log : List Noted) (y : Way) (ask : Ask) (s : Scan) → FitsCall w seen log y ask s → (length s.counters == 1) ≡ true → (counter_of s ≤ w.counter) × AllBelow (counter_of s) (counts_of log) × ((h : Hands) → get_elem? w.journal (s.first / 2) ≡ some h → h.count ≤ counter_of s) × (y ≡ Past → ask.given ≤ counter_of s)
+    first_counter : (seen : ℕ) (log : List Noted) (y : Way) (ask : Ask) (s : Scan) → FitsCall w seen log y ask s → (length s.counters == 1) ≡ true → (counter_of s ≤ w.counter) × AllBelow (counter_of s) (counts_of log) × ((h : Hands) → get_elem? w.journal (s.first / 2) ≡ some h → h.count ≤ counter_of s) × (y ≡ past → ask.given ≤ counter_of s)
     first_counter seen log y ask s f one = f.counters 0 (counter_of s) (one_number s.counters (eqb-true (length s.counters) 1 one))
 
     -- a full read that finds the turn word as it was
-    pub full_read : (ask : Ask) (seen : ℕ) (log : List Noted) (s : Scan) → seen ≤ length w.journal → FitsCall w seen log Whole ask s → (has_fields s && (length s.counters == 1)) ≡ true → w.turn ≡ s.first
+    pub full_read : (ask : Ask) (seen : ℕ) (log : List Noted) (s : Scan) → seen ≤ length w.journal → FitsCall w seen log full ask s → (has_fields s && (length s.counters == 1)) ≡ true → w.turn ≡ s.first
         → (h : Hands) × (s.fields ≡ pack h) × (get_elem? w.journal s.tick ≡ some h) × (h.count ≤ counter_of s) × IsTimely w s.tick (counter_of s) × AllBelow (counter_of s) (counts_of log) × (counter_of s ≤ w.counter)
     full_read ask seen log s in-J f all same = let b = both_true (has_fields s) (length s.counters == 1) all in let good = both_true s.good (length s.fields == 15) b.0 in let k = f.kind good.0 in
-        let a = at_last s same k.1 in let h = whole_hands seen log Whole ask s in-J f b.0 (subst (λ t. w.marks t ≡ full_mark t) (sym k.0) a.mark) in
-        let c = first_counter seen log Whole ask s f b.1 in
+        let a = at_last s same k.1 in let h = whole_hands seen log full ask s in-J f b.0 (subst (λ t. w.marks t ≡ full_mark t) (sym k.0) a.mark) in
+        let c = first_counter seen log full ask s f b.1 in
         (h.0, h.1, h.2, c.2 h.0 (subst (λ t. get_elem? w.journal t ≡ some h.0) k.0 h.2), subst (λ t. IsTimely w t (counter_of s)) (sym k.0) (timely s (counter_of s) a c.0), c.1, c.0)
 
     crossed : (s : Scan) → s.first ≤ w.turn → s.first % 2 ≡ 0 → (w.turn == s.first) ≡ false → Crossed w s.first s.first w.turn
     crossed s reached even is = let less : s.first < w.turn = ⊎_elim (λ (x : ((w.turn == s.first) ≡ true) × (w.turn ≡ s.first)). absurd (true≢false (sym x.0 ∙ is))) (λ (x : ((w.turn == s.first) ≡ false) × (w.turn ≢ s.first)). let ne = x.1 in omega arith) (eqb_tells w.turn s.first) in
         (refl, le_refl w.turn, inr (less, even))
 
-    turn_whole : (ask : Ask) (e : way_of ask.kind ≡ Whole) (seen : ℕ) (log : List Noted) (s : Scan) (b c : Bool) → seen ≤ length w.journal → FitsCall w seen log Whole ask s → (has_fields s && (length s.counters == 1)) ≡ b → (w.turn == s.first) ≡ c → Outcome seen log Whole ask (ends (turn_ends b ask s w.turn) s)
-    turn_whole ask e seen log s false c in-J f is same = goes_astray seen log Whole ask s f
-    turn_whole ask e seen log s true c in-J f is same = goes_end seen log Whole ask s (at_turn (w.turn == s.first) ask s w.turn) (subst (λ b. IsNext log s.first (at_turn b ask s w.turn)) (sym same) (entry c same))
+    turn_whole : (ask : Ask) (e : way_of ask.kind ≡ full) (seen : ℕ) (log : List Noted) (s : Scan) (b c : Bool) → seen ≤ length w.journal → FitsCall w seen log full ask s → (has_fields s && (length s.counters == 1)) ≡ b → (w.turn == s.first) ≡ c → Outcome seen log full ask (ends (turn_ends b ask s w.turn) s)
+    turn_whole ask e seen log s false c in-J f is same = goes_astray seen log full ask s f
+    turn_whole ask e seen log s true c in-J f is same = goes_end seen log full ask s (at_turn (w.turn == s.first) ask s w.turn) (subst (λ b. IsNext log s.first (at_turn b ask s w.turn)) (sym same) (entry c same))
       where
         entry : (c : Bool) → (w.turn == s.first) ≡ c → IsNext log s.first (at_turn c ask s w.turn)
         entry true same = let h = full_read ask seen log s in-J f is (eqb-true w.turn s.first same) in let u : unpack s.fields ≡ h.0 = reads s.tick h.0 s.fields h.1 h.2 in let k = f.kind (both_true s.good (length s.fields == 15) (both_true (has_fields s) (length s.counters == 1) is).0).0 in record {
-          fits = record { ask = ask; hands = unpack s.fields; counter = counter_of s; at = h.2 ∙ ap some (sym u); is = refl; count = subst (λ z. FitsCount w z ask.given s.tick (unpack s.fields) (counter_of s)) (sym e) (subst (λ (g : Hands). g.count ≤ counter_of s) (sym u) h.3, h.4); tick = subst (λ z. FitsTick z s.tick s.first) (sym e) k.0 };
+          fits = record { ask = ask; hands = unpack s.fields; counter = counter_of s; at = h.2 ∙ ap some (sym u); is = refl; count = subst (λ z. FitsCount w z ask.given s.tick (unpack s.fields) (counter_of s)) (sym e) (subst (λ (g : Hands). g.count ≤ counter_of s) (sym u) h.3, h.4); tick = subst (λ z. IsReadSince z s.tick s.first) (sym e) k.0 };
           later = f.later;
           reached = f.reached;
           counts = new_read ask.kind ask.given (counter_of s) (unpack s.fields) (counts_of log) (λ _. (h.5, h.6));
         }
         entry false same = let k = f.kind (both_true s.good (length s.fields == 15) (both_true (has_fields s) (length s.counters == 1) is).0).0 in record { fits = subst (λ z. FitsAgain w z s.first s.first w.turn) (sym e) (crossed s f.reached k.1 same); later = f.later; reached = f.reached; counts = no_read (counts_of log) }
 
-    turn_back : (ask : Ask) (e : way_of ask.kind ≡ Past) (seen : ℕ) (log : List Noted) (s : Scan) (b c : Bool) → seen ≤ length w.journal → FitsCall w seen log Past ask s → (s.good && s.line && (length s.counters == 1)) ≡ b → (w.turn == s.first) ≡ c → Outcome seen log Past ask (ends (turn_ends b ask s w.turn) s)
-    turn_back ask e seen log s false c in-J f is same = goes_astray seen log Past ask s f
-    turn_back ask e seen log s true c in-J f is same = goes_end seen log Past ask s (at_turn (w.turn == s.first) ask s w.turn) (subst (λ b. IsNext log s.first (at_turn b ask s w.turn)) (sym same) (entry c same))
+    turn_back : (ask : Ask) (e : way_of ask.kind ≡ past) (seen : ℕ) (log : List Noted) (s : Scan) (b c : Bool) → seen ≤ length w.journal → FitsCall w seen log past ask s → (s.good && s.line && (length s.counters == 1)) ≡ b → (w.turn == s.first) ≡ c → Outcome seen log past ask (ends (turn_ends b ask s w.turn) s)
+    turn_back ask e seen log s false c in-J f is same = goes_astray seen log past ask s f
+    turn_back ask e seen log s true c in-J f is same = goes_end seen log past ask s (at_turn (w.turn == s.first) ask s w.turn) (subst (λ b. IsNext log s.first (at_turn b ask s w.turn)) (sym same) (entry c same))
       where
         entry : (c : Bool) → (w.turn == s.first) ≡ c → IsNext log s.first (at_turn c ask s w.turn)
         entry true same = let b = both_true (s.good && s.line) (length s.counters == 1) is in let g = both_true s.good s.line b.0 in let k = f.kind g.0 in let top = k.top g.1 in let a = at_last s (eqb-true w.turn s.first same) top.1 in
-            let tick = f.tick in let near = f.near in let h = there w.journal s.tick (omega arith) in let known = top.2 h.0 h.1 in let u : unpack s.fields ≡ h.0 = reads s.tick h.0 s.fields known.0 h.1 in let c = first_counter seen log Past ask s f b.1 in record {
+            let tick = f.tick in let near = f.near in let h = there w.journal s.tick (omega arith) in let known = top.2 h.0 h.1 in let u : unpack s.fields ≡ h.0 = reads s.tick h.0 s.fields known.0 h.1 in let c = first_counter seen log past ask s f b.1 in record {
               fits = record {
                 ask = ask;
                 hands = unpack s.fields;
@@ -266,33 +268,33 @@ module _ (w : World) (back : (m : ℕ) (h : Hands) → get_elem? w.journal m ≡
                 at = h.1 ∙ ap some (sym u);
                 is = refl;
                 count = subst (λ z. FitsCount w z ask.given s.tick (unpack s.fields) (counter_of s)) (sym e) (inr (subst (λ (x : Hands). x.count < ask.given) (sym u) known.1), subst (λ t. IsTimely w t ask.given) (sym top.0) (timely s ask.given a (le_trans (c.3 refl) c.0)));
-                tick = subst (λ z. FitsTick z s.tick s.first) (sym e) k.range;
+                tick = subst (λ z. IsReadSince z s.tick s.first) (sym e) k.range;
               };
               later = f.later;
               reached = f.reached;
-              counts = new_read ask.kind ask.given (counter_of s) (unpack s.fields) (counts_of log) (λ full. absurd (true≢false (sym full ∙ ap needs_even e)));
+              counts = new_read ask.kind ask.given (counter_of s) (unpack s.fields) (counts_of log) (λ needs. absurd (true≢false (sym needs ∙ ap needs_even e)));
             }
         entry false same = let b = both_true (s.good && s.line) (length s.counters == 1) is in let g = both_true s.good s.line b.0 in let top = (f.kind g.0).top g.1 in record { fits = subst (λ z. FitsAgain w z s.first s.first w.turn) (sym e) (inl (crossed s f.reached top.1 same)); later = f.later; reached = f.reached; counts = no_read (counts_of log) }
 
     turn_by : (y : Way) (ask : Ask) (e : way_of ask.kind ≡ y) (seen : ℕ) (log : List Noted) (s : Scan) → seen ≤ length w.journal → FitsCall w seen log y ask s → Outcome seen log y ask (turn_again y ask s w.turn)
-    turn_by Whole ask e seen log s in-J f = turn_whole ask e seen log s _ _ in-J f refl refl
-    turn_by Light ask e seen log s in-J f = goes_astray seen log Light ask s f
-    turn_by Past ask e seen log s in-J f = turn_back ask e seen log s _ _ in-J f refl refl
+    turn_by full ask e seen log s in-J f = turn_whole ask e seen log s _ _ in-J f refl refl
+    turn_by quick ask e seen log s in-J f = goes_astray seen log quick ask s f
+    turn_by past ask e seen log s in-J f = turn_back ask e seen log s _ _ in-J f refl refl
 
     -- the counter
-    counted : (seen : ℕ) (log : List Noted) (y : Way) (ask : Ask) (s : Scan) → FitsLog w log → FitsCall w seen log y ask s → (y ≡ Past → ask.given ≤ w.counter) → (i c : ℕ) → get_elem? (s.counters ++ w.counter ∷ []) i ≡ some c
-        → (c ≤ w.counter) × AllBelow c (counts_of log) × ((h : Hands) → get_elem? w.journal (s.first / 2) ≡ some h → h.count ≤ c) × (y ≡ Past → ask.given ≤ c)
-    counted seen log y ask s l f past i c at = ⊎_elim (λ (was : get_elem? s.counters i ≡ some c). f.counters i c was)
-        (λ (new : w.counter ≡ c). subst (λ x. (x ≤ w.counter) × AllBelow x (counts_of log) × ((h : Hands) → get_elem? w.journal (s.first / 2) ≡ some h → h.count ≤ x) × (y ≡ Past → ask.given ≤ x)) new
-        (le_refl w.counter, l.counts_below, sane.past (s.first / 2), past)) (at_snoc s.counters w.counter c i at)
+    counted : (seen : ℕ) (log : List Noted) (y : Way) (ask : Ask) (s : Scan) → FitsLog w log → FitsCall w seen log y ask s → (y ≡ past → ask.given ≤ w.counter) → (i c : ℕ) → get_elem? (s.counters ++ w.counter ∷ []) i ≡ some c
+        → (c ≤ w.counter) × AllBelow c (counts_of log) × ((h : Hands) → get_elem? w.journal (s.first / 2) ≡ some h → h.count ≤ c) × (y ≡ past → ask.given ≤ c)
+    counted seen log y ask s l f beyond i c at = ⊎_elim (λ (was : get_elem? s.counters i ≡ some c). f.counters i c was)
+        (λ (new : w.counter ≡ c). subst (λ x. (x ≤ w.counter) × AllBelow x (counts_of log) × ((h : Hands) → get_elem? w.journal (s.first / 2) ≡ some h → h.count ≤ x) × (y ≡ past → ask.given ≤ x)) new
+        (le_refl w.counter, l.counts_below, sane.reached (s.first / 2), beyond)) (at_snoc s.counters w.counter c i at)
 
-    counter_down : (ask : Ask) (e : way_of ask.kind ≡ Past) (seen : ℕ) (log : List Noted) (s : Scan) (a b : Bool) → FitsLog w log → FitsCall w seen log Past ask s → (s.good && s.line && (length s.counters == 0)) ≡ a → nat_lt w.counter ask.given ≡ b → Outcome seen log Past ask (counter_back a ask s w.counter)
-    counter_down ask e seen log s false b l f is less = goes_astray seen log Past ask s f
-    counter_down ask e seen log s true b l f is less = subst (λ x. Outcome seen log Past ask (counts_back x ask s w.counter)) (sym less) (next b less)
+    counter_down : (ask : Ask) (e : way_of ask.kind ≡ past) (seen : ℕ) (log : List Noted) (s : Scan) (a b : Bool) → FitsLog w log → FitsCall w seen log past ask s → (s.good && s.line && (length s.counters == 0)) ≡ a → nat_lt w.counter ask.given ≡ b → Outcome seen log past ask (counter_back a ask s w.counter)
+    counter_down ask e seen log s false b l f is less = goes_astray seen log past ask s f
+    counter_down ask e seen log s true b l f is less = subst (λ x. Outcome seen log past ask (counts_back x ask s w.counter)) (sym less) (next b less)
       where
-        next : (b : Bool) → nat_lt w.counter ask.given ≡ b → Outcome seen log Past ask (counts_back b ask s w.counter)
-        next true less = goes_end seen log Past ask s (Ahead ask.given w.counter) record { fits = ltb-true w.counter ask.given less; later = f.later; reached = f.reached; counts = one_new (counts_of log) w.counter l.counts_below (le_refl w.counter) }
-        next false less = goes_open seen log Past ask (record s { counters = s.counters ++ w.counter ∷ [] }) record {
+        next : (b : Bool) → nat_lt w.counter ask.given ≡ b → Outcome seen log past ask (counts_back b ask s w.counter)
+        next true less = goes_end seen log past ask s (Ahead ask.given w.counter) record { fits = ltb-true w.counter ask.given less; later = f.later; reached = f.reached; counts = one_new (counts_of log) w.counter l.counts_below (le_refl w.counter) }
+        next false less = goes_open seen log past ask (record s { counters = s.counters ++ w.counter ∷ [] }) record {
           begun = f.begun;
           undecided = f.undecided;
           later = f.later;
@@ -301,14 +303,14 @@ module _ (w : World) (back : (m : ℕ) (h : Hands) → get_elem? w.journal m ≡
           reached = f.reached;
           kind = λ good. let k = f.kind good in record { range = k.range; above = k.above; top = k.top };
           fields = f.fields;
-          counters = counted seen log Past ask s l f (λ _. ltb-false w.counter ask.given less);
+          counters = counted seen log past ask s l f (λ _. ltb-false w.counter ask.given less);
         }
 
-    not_past : {P : Type 0} → Whole ≡ Past → P
+    not_past : {P : Type 0} → full ≡ past → P
     not_past x = cc
 
     counter_kind : (k : Way) (ask : Ask) (e : way_of ask.kind ≡ k) (seen : ℕ) (log : List Noted) (s : Scan) → FitsLog w log → FitsCall w seen log k ask s → Outcome seen log k ask (counter_by k ask s w.counter)
-    counter_kind Whole ask e seen log s l f = goes_open seen log Whole ask (counter_by Whole ask s w.counter) record {
+    counter_kind full ask e seen log s l f = goes_open seen log full ask (counter_by full ask s w.counter) record {
       begun = refl;
       undecided = refl;
       later = f.later;
@@ -317,10 +319,10 @@ module _ (w : World) (back : (m : ℕ) (h : Hands) → get_elem? w.journal m ≡
       reached = f.reached;
       kind = λ good. f.kind (both_true s.good _ good).0;
       fields = λ good. f.fields (both_true s.good _ good).0;
-      counters = counted seen log Whole ask s l f (λ past. not_past past);
+      counters = counted seen log full ask s l f (λ beyond. not_past beyond);
     }
-    counter_kind Light ask e seen log s l f = goes_astray seen log Light ask s f
-    counter_kind Past ask e seen log s l f = counter_down ask e seen log s _ _ l f refl refl
+    counter_kind quick ask e seen log s l f = goes_astray seen log quick ask s f
+    counter_kind past ask e seen log s l f = counter_down ask e seen log s _ _ l f refl refl
 
     -- the first load of a call
     opened_fits : (y : Way) (ask : Ask) (e : way_of ask.kind ≡ y) (seen : ℕ) (log : List Noted) (b : Bool) → is_even w.turn ≡ b → FitsLog w log → w.turn / 2 < seen → Outcome seen log y ask (opened (needs_even y && not b) ask w.turn)
@@ -335,10 +337,10 @@ module _ (w : World) (back : (m : ℕ) (h : Hands) → get_elem? w.journal m ≡
         open_call y fits = goes_open seen log y ask (opens_at w.turn) record { begun = refl; undecided = refl; later = f.below; tick = near; near = le_refl (w.turn / 2); reached = le_refl w.turn; kind = λ _. fits; fields = λ _ _ h at i y e. absurd (some-ne-none y (sym e)); counters = λ i c e. absurd (some-ne-none c (sym e)) }
 
         by_way : (y : Way) (b : Bool) → way_of ask.kind ≡ y → is_even w.turn ≡ b → Outcome seen log y ask (opened (needs_even y && not b) ask w.turn)
-        by_way Whole false e is = goes_end seen log Whole ask (opens_at w.turn) (Again ask.kind w.turn w.turn) record { fits = subst (λ z. FitsAgain w z w.turn w.turn w.turn) (sym e) (refl, le_refl w.turn, inl (refl, odd (w.turn % 2) (omega arith) is)); later = f.below; reached = le_refl w.turn; counts = no_read (counts_of log) }
-        by_way Whole true e is = open_call Whole (refl, eqb-true (w.turn % 2) 0 is)
-        by_way Light b e is = open_call Light refl
-        by_way Past b e is = open_call Past record { range = (le_refl (w.turn / 2), omega arith); above = λ less. absurd (omega arith); top = λ e. absurd (true≢false (sym e)) }
+        by_way full false e is = goes_end seen log full ask (opens_at w.turn) (Again ask.kind w.turn w.turn) record { fits = subst (λ z. FitsAgain w z w.turn w.turn w.turn) (sym e) (refl, le_refl w.turn, inl (refl, odd (w.turn % 2) (omega arith) is)); later = f.below; reached = le_refl w.turn; counts = no_read (counts_of log) }
+        by_way full true e is = open_call full (refl, eqb-true (w.turn % 2) 0 is)
+        by_way quick b e is = open_call quick refl
+        by_way past b e is = open_call past record { range = (le_refl (w.turn / 2), omega arith); above = λ less. absurd (omega arith); top = λ e. absurd (true≢false (sym e)) }
 
     pub turn_fits : (v : PassView) → FitsPass w v → v.calling ≡ true → FitsPass w (turn_loaded w.turn v)
     turn_fits v f calling = let call = f.call calling in let s : Scan = scan_of v in let t : ℕ = w.turn in let seen = f.seen in let last = sane.last in
@@ -392,9 +394,9 @@ module _ (w : World) (back : (m : ℕ) (h : Hands) → get_elem? w.journal m ≡
         }
 
   one_more_field : (k : Way) (ask : Ask) (s : Scan) (x : ℕ) → not s.line ≡ true → FitsKind w k ask s → FitsKind w k ask (record s { fields = s.fields ++ x ∷ [] })
-  one_more_field Whole ask s x off fits = fits
-  one_more_field Light ask s x off fits = fits
-  one_more_field Past ask s x off fits = record { range = fits.range; above = fits.above; top = λ line. absurd (not_both s.line off line) }
+  one_more_field full ask s x off fits = fits
+  one_more_field quick ask s x off fits = fits
+  one_more_field past ask s x off fits = record { range = fits.range; above = fits.above; top = λ line. absurd (not_both s.line off line) }
     where
       not_both : (b : Bool) → not b ≡ true → b ≡ true → ⊥
       not_both true a e = true≢false (sym a)
@@ -432,9 +434,9 @@ module _ (w : World) (back : (m : ℕ) (h : Hands) → get_elem? w.journal m ≡
       }
     where
       kind_after : (k : Way) (ask : Ask) (s : Scan) (x : ℕ) {b : Bool} → b ≡ true → FitsKind w k ask (record s { fields = s.fields ++ x ∷ [] }) → FitsKind w k ask (record s { begun = true; good = b; fields = s.fields ++ x ∷ []; answer = None })
-      kind_after Whole ask s x e fits = fits
-      kind_after Light ask s x e fits = fits
-      kind_after Past ask s x e fits = record { range = fits.range; above = fits.above; top = fits.top }
+      kind_after full ask s x e fits = fits
+      kind_after quick ask s x e fits = fits
+      kind_after past ask s x e fits = record { range = fits.range; above = fits.above; top = fits.top }
 
   module _ (start : get_elem? w.journal 0 ≡ some cold) (later : (m : ℕ) → m < length w.journal → w.marks m ≢ full_mark m → (k : ℕ) × IsMark (w.marks m) k × (m + 10 ≤ k) × (k % 10 ≡ m % 10) × (k ≤ top_tick w.turn)) where
     not_full : (m : ℕ) → (w.marks m == full_mark m) ≡ false → w.marks m ≢ full_mark m
@@ -442,17 +444,17 @@ module _ (w : World) (back : (m : ℕ) (h : Hands) → get_elem? w.journal m ≡
 
     module _ (seen : ℕ) (log : List Noted) (s : Scan) (in-J : seen ≤ length w.journal) where
       -- Fast and Diff
-      light : (ask : Ask) (e : way_of ask.kind ≡ Light) (a b : Bool) → FitsCall w seen log Light ask s → (s.good ≡ true → s.tick ≡ s.first / 2)
-          → (has_fields s && (s.tick == s.tick)) ≡ a → (w.marks s.tick == full_mark s.tick) ≡ b → Outcome seen log Light ask (ends (mark_ends a ask s (w.marks s.tick)) s)
-      light ask e false b f here is same = goes_astray seen log Light ask s f
-      light ask e true b f here is same = goes_end seen log Light ask s (at_mark (w.marks s.tick == full_mark s.tick) ask s (w.marks s.tick)) (subst (λ c. IsNext log s.first (at_mark c ask s (w.marks s.tick))) (sym same) (entry b same))
+      light : (ask : Ask) (e : way_of ask.kind ≡ quick) (a b : Bool) → FitsCall w seen log quick ask s → (s.good ≡ true → s.tick ≡ s.first / 2)
+          → (has_fields s && (s.tick == s.tick)) ≡ a → (w.marks s.tick == full_mark s.tick) ≡ b → Outcome seen log quick ask (ends (mark_ends a ask s (w.marks s.tick)) s)
+      light ask e false b f here is same = goes_astray seen log quick ask s f
+      light ask e true b f here is same = goes_end seen log quick ask s (at_mark (w.marks s.tick == full_mark s.tick) ask s (w.marks s.tick)) (subst (λ c. IsNext log s.first (at_mark c ask s (w.marks s.tick))) (sym same) (entry b same))
         where
           entry : (b : Bool) → (w.marks s.tick == full_mark s.tick) ≡ b → IsNext log s.first (at_mark b ask s (w.marks s.tick))
-          entry true same = let whole = (both_true (has_fields s) _ is).0 in let h = whole_hands seen log Light ask s in-J f whole (eqb-true _ _ same) in let u : unpack s.fields ≡ h.0 = reads s.tick h.0 s.fields h.1 h.2 in record {
-            fits = record { ask = ask; hands = unpack s.fields; counter = counter_of s; at = h.2 ∙ ap some (sym u); is = refl; count = subst (λ z. FitsCount w z ask.given s.tick (unpack s.fields) (counter_of s)) (sym e) tt; tick = subst (λ z. FitsTick z s.tick s.first) (sym e) (here (both_true s.good _ whole).0) };
+          entry true same = let whole = (both_true (has_fields s) _ is).0 in let h = whole_hands seen log quick ask s in-J f whole (eqb-true _ _ same) in let u : unpack s.fields ≡ h.0 = reads s.tick h.0 s.fields h.1 h.2 in record {
+            fits = record { ask = ask; hands = unpack s.fields; counter = counter_of s; at = h.2 ∙ ap some (sym u); is = refl; count = subst (λ z. FitsCount w z ask.given s.tick (unpack s.fields) (counter_of s)) (sym e) tt; tick = subst (λ z. IsReadSince z s.tick s.first) (sym e) (here (both_true s.good _ whole).0) };
             later = f.later;
             reached = f.reached;
-            counts = new_read ask.kind ask.given (counter_of s) (unpack s.fields) (counts_of log) (λ full. absurd (true≢false (sym full ∙ ap needs_even e)));
+            counts = new_read ask.kind ask.given (counter_of s) (unpack s.fields) (counts_of log) (λ needs. absurd (true≢false (sym needs ∙ ap needs_even e)));
           }
           entry false same = let tick = f.tick in let near = f.near in let whole = (both_true (has_fields s) _ is).0 in record {
             fits = subst (λ z. FitsAgain w z s.first (full_mark s.tick) (w.marks s.tick)) (sym e) (subst (λ m. Overtaken w m (full_mark s.tick) (w.marks s.tick)) (here (both_true s.good _ whole).0) (refl, later s.tick (omega arith) (not_full s.tick same)));
@@ -462,7 +464,7 @@ module _ (w : World) (back : (m : ℕ) (h : Hands) → get_elem? w.journal m ≡
           }
 
       -- Back
-      module _ (ask : Ask) (e : way_of ask.kind ≡ Past) (f : FitsCall w seen log Past ask s) (whole : has_fields s ≡ true) (off : not s.line ≡ true) where
+      module _ (ask : Ask) (e : way_of ask.kind ≡ past) (f : FitsCall w seen log past ask s) (whole : has_fields s ≡ true) (off : not s.line ≡ true) where
         walk : FitsWalk w ask s
         walk = f.kind (both_true s.good _ whole).0
 
@@ -473,16 +475,16 @@ module _ (w : World) (back : (m : ℕ) (h : Hands) → get_elem? w.journal m ≡
         above_timely : s.tick < s.first / 2 → IsTimely w s.tick ask.given
         above_timely less = let in-J' = in-walk in record { next = walk.above less; last = λ e. absurd (omega arith) }
 
-        back_read : (h : Hands) → s.fields ≡ pack h → get_elem? w.journal s.tick ≡ some h → ((s.tick ≡ 0) ⊎ (h.count < ask.given)) → IsTimely w s.tick ask.given → Outcome seen log Past ask (ends (Some (read_by ask s)) s)
-        back_read h is at line timely = let u : unpack s.fields ≡ h = reads s.tick h s.fields is at in goes_end seen log Past ask s (read_by ask s) record {
-          fits = record { ask = ask; hands = unpack s.fields; counter = counter_of s; at = at ∙ ap some (sym u); is = refl; count = subst (λ z. FitsCount w z ask.given s.tick (unpack s.fields) (counter_of s)) (sym e) (subst (λ (g : Hands). (s.tick ≡ 0) ⊎ (g.count < ask.given)) (sym u) line, timely); tick = subst (λ z. FitsTick z s.tick s.first) (sym e) walk.range };
+        back_read : (h : Hands) → s.fields ≡ pack h → get_elem? w.journal s.tick ≡ some h → ((s.tick ≡ 0) ⊎ (h.count < ask.given)) → IsTimely w s.tick ask.given → Outcome seen log past ask (ends (Some (read_by ask s)) s)
+        back_read h is at line timely = let u : unpack s.fields ≡ h = reads s.tick h s.fields is at in goes_end seen log past ask s (read_by ask s) record {
+          fits = record { ask = ask; hands = unpack s.fields; counter = counter_of s; at = at ∙ ap some (sym u); is = refl; count = subst (λ z. FitsCount w z ask.given s.tick (unpack s.fields) (counter_of s)) (sym e) (subst (λ (g : Hands). (s.tick ≡ 0) ⊎ (g.count < ask.given)) (sym u) line, timely); tick = subst (λ z. IsReadSince z s.tick s.first) (sym e) walk.range };
           later = f.later;
           reached = f.reached;
-          counts = new_read ask.kind ask.given (counter_of s) (unpack s.fields) (counts_of log) (λ full. absurd (true≢false (sym full ∙ ap needs_even e)));
+          counts = new_read ask.kind ask.given (counter_of s) (unpack s.fields) (counts_of log) (λ needs. absurd (true≢false (sym needs ∙ ap needs_even e)));
         }
 
-        finds_top_fits : (h : Hands) → s.fields ≡ pack h → get_elem? w.journal s.tick ≡ some h → h.count < ask.given → s.tick ≡ s.first / 2 → (b : Bool) → is_even s.first ≡ b → Outcome seen log Past ask (finds_top b ask s)
-        finds_top_fits h is at less top true even = goes_open seen log Past ask (record s { line = true }) record {
+        finds_top_fits : (h : Hands) → s.fields ≡ pack h → get_elem? w.journal s.tick ≡ some h → h.count < ask.given → s.tick ≡ s.first / 2 → (b : Bool) → is_even s.first ≡ b → Outcome seen log past ask (finds_top b ask s)
+        finds_top_fits h is at less top true even = goes_open seen log past ask (record s { line = true }) record {
           begun = f.begun;
           undecided = f.undecided;
           later = f.later;
@@ -493,28 +495,28 @@ module _ (w : World) (back : (m : ℕ) (h : Hands) → get_elem? w.journal m ≡
           fields = f.fields;
           counters = f.counters;
         }
-        finds_top_fits h is at less top false even = goes_end seen log Past ask s (Again ask.kind s.first s.first) record { fits = subst (λ z. FitsAgain w z s.first s.first s.first) (sym e) (inl (refl, f.reached, inl (refl, odd (s.first % 2) (omega arith) even))); later = f.later; reached = f.reached; counts = no_read (counts_of log) }
+        finds_top_fits h is at less top false even = goes_end seen log past ask s (Again ask.kind s.first s.first) record { fits = subst (λ z. FitsAgain w z s.first s.first s.first) (sym e) (inl (refl, f.reached, inl (refl, odd (s.first % 2) (omega arith) even))); later = f.later; reached = f.reached; counts = no_read (counts_of log) }
           where
             odd : (n : ℕ) → n < 2 → (n == 0) ≡ false → n ≡ 1
             odd zero h e = absurd (true≢false e)
             odd (suc zero) h e = refl
             odd (suc (suc n)) h e = absurd (omega arith)
 
-        finds_line_fits : (h : Hands) → s.fields ≡ pack h → get_elem? w.journal s.tick ≡ some h → h.count < ask.given → (b : Bool) → (s.tick == s.first / 2) ≡ b → Outcome seen log Past ask (finds_line b ask s)
+        finds_line_fits : (h : Hands) → s.fields ≡ pack h → get_elem? w.journal s.tick ≡ some h → h.count < ask.given → (b : Bool) → (s.tick == s.first / 2) ≡ b → Outcome seen log past ask (finds_line b ask s)
         finds_line_fits h is at less true same = finds_top_fits h is at less (eqb-true _ _ same) (is_even s.first) refl
         finds_line_fits h is at less false same = let near = f.near in let ne : s.tick ≢ s.first / 2 = λ e. true≢false (sym (eq-eqb _ _ e) ∙ same) in back_read h is at (inr less) (above_timely (omega arith))
 
-        goes_down_fits : (h : Hands) → s.fields ≡ pack h → get_elem? w.journal s.tick ≡ some h → ask.given ≤ h.count → (a b : Bool) → (s.tick == 0) ≡ a → (s.tick + 9 == s.first / 2) ≡ b → Outcome seen log Past ask (goes_down a b ask s)
+        goes_down_fits : (h : Hands) → s.fields ≡ pack h → get_elem? w.journal s.tick ≡ some h → ask.given ≤ h.count → (a b : Bool) → (s.tick == 0) ≡ a → (s.tick + 9 == s.first / 2) ≡ b → Outcome seen log past ask (goes_down a b ask s)
         goes_down_fits h is at low true b zero-is old-is = let z : s.tick ≡ 0 = eqb-true s.tick 0 zero-is in let same : cold ≡ h = some-injective cold h (sym start ∙ subst (λ t. get_elem? w.journal t ≡ some h) z at) in
             let none : ask.given ≤ 0 = subst (λ (x : Hands). ask.given ≤ x.count) (sym same) low in back_read h is at (inl z) record { next = λ g at-g. omega arith; last = λ e. omega arith }
-        goes_down_fits h is at low false true zero-is old-is = let u : unpack s.fields ≡ h = reads s.tick h s.fields is at in let ne : s.tick ≢ 0 = λ e. true≢false (sym (eq-eqb _ _ e) ∙ zero-is) in goes_end seen log Past ask s (TooOld ask.given (unpack s.fields).count) record {
-          fits = record { tick = s.tick; hands = h; at = at; is = ap (λ (x : Hands). x.count) (sym u); past = subst (λ (x : Hands). ask.given ≤ x.count) (sym u) low; later = eqb-true (s.tick + 9) (s.first / 2) old-is; some_tick = omega arith; reached = in-walk };
+        goes_down_fits h is at low false true zero-is old-is = let u : unpack s.fields ≡ h = reads s.tick h s.fields is at in let ne : s.tick ≢ 0 = λ e. true≢false (sym (eq-eqb _ _ e) ∙ zero-is) in goes_end seen log past ask s (TooOld ask.given (unpack s.fields).count) record {
+          fits = record { tick = s.tick; hands = h; at = at; is = ap (λ (x : Hands). x.count) (sym u); not_after = subst (λ (x : Hands). ask.given ≤ x.count) (sym u) low; later = eqb-true (s.tick + 9) (s.first / 2) old-is; some_tick = omega arith; reached = in-walk };
           later = f.later;
           reached = f.reached;
           counts = no_read (counts_of log);
         }
         goes_down_fits h is at low false false zero-is old-is = let near = f.near in let range = walk.range in let ne : s.tick ≢ 0 = λ e. true≢false (sym (eq-eqb _ _ e) ∙ zero-is) in let ne' : s.tick + 9 ≢ s.first / 2 = λ e. true≢false (sym (eq-eqb _ _ e) ∙ old-is) in
-            goes_open seen log Past ask (record s { tick = s.tick - 1; fields = [] }) record {
+            goes_open seen log past ask (record s { tick = s.tick - 1; fields = [] }) record {
               begun = f.begun;
               undecided = f.undecided;
               later = f.later;
@@ -534,27 +536,27 @@ module _ (w : World) (back : (m : ℕ) (h : Hands) → get_elem? w.journal m ≡
             not_both true a e = true≢false (sym a)
             not_both false a e = true≢false (sym e)
 
-        looks_fits : (h : Hands) → s.fields ≡ pack h → get_elem? w.journal s.tick ≡ some h → (b : Bool) → nat_lt (unpack s.fields).count ask.given ≡ b → Outcome seen log Past ask (looks_at b ask s)
+        looks_fits : (h : Hands) → s.fields ≡ pack h → get_elem? w.journal s.tick ≡ some h → (b : Bool) → nat_lt (unpack s.fields).count ask.given ≡ b → Outcome seen log past ask (looks_at b ask s)
         looks_fits h is at true less = finds_line_fits h is at (subst (λ (x : Hands). x.count < ask.given) (reads s.tick h s.fields is at) (ltb-true _ _ less)) (s.tick == s.first / 2) refl
         looks_fits h is at false less = goes_down_fits h is at (subst (λ (x : Hands). ask.given ≤ x.count) (reads s.tick h s.fields is at) (ltb-false _ _ less)) (s.tick == 0) (s.tick + 9 == s.first / 2) refl refl
 
-        finds_mark_fits : (b : Bool) → (w.marks s.tick == full_mark s.tick) ≡ b → Outcome seen log Past ask (finds_mark b ask s (w.marks s.tick))
-        finds_mark_fits true same = let h = whole_hands seen log Past ask s in-J f whole (eqb-true _ _ same) in looks_fits h.0 h.1 h.2 (nat_lt (unpack s.fields).count ask.given) refl
-        finds_mark_fits false same = let near = f.near in let in-J' = in-walk in goes_end seen log Past ask s (Again ask.kind (full_mark s.tick) (w.marks s.tick)) record {
+        finds_mark_fits : (b : Bool) → (w.marks s.tick == full_mark s.tick) ≡ b → Outcome seen log past ask (finds_mark b ask s (w.marks s.tick))
+        finds_mark_fits true same = let h = whole_hands seen log past ask s in-J f whole (eqb-true _ _ same) in looks_fits h.0 h.1 h.2 (nat_lt (unpack s.fields).count ask.given) refl
+        finds_mark_fits false same = let near = f.near in let in-J' = in-walk in goes_end seen log past ask s (Again ask.kind (full_mark s.tick) (w.marks s.tick)) record {
           fits = subst (λ z. FitsAgain w z s.first (full_mark s.tick) (w.marks s.tick)) (sym e) (inr (s.tick, walk.range, (refl, later s.tick (omega arith) (not_full s.tick same))));
           later = f.later;
           reached = f.reached;
           counts = no_read (counts_of log);
         }
 
-      walks_fits : (ask : Ask) (e : way_of ask.kind ≡ Past) (b : Bool) → FitsCall w seen log Past ask s → (has_fields s && not s.line && (s.tick == s.tick)) ≡ b → Outcome seen log Past ask (walks b ask s (w.marks s.tick))
+      walks_fits : (ask : Ask) (e : way_of ask.kind ≡ past) (b : Bool) → FitsCall w seen log past ask s → (has_fields s && not s.line && (s.tick == s.tick)) ≡ b → Outcome seen log past ask (walks b ask s (w.marks s.tick))
       walks_fits ask e true f is = let b = both_true _ (s.tick == s.tick) is in let c = both_true (has_fields s) (not s.line) b.0 in finds_mark_fits ask e f c.0 c.1 (w.marks s.tick == full_mark s.tick) refl
-      walks_fits ask e false f is = goes_astray seen log Past ask s f
+      walks_fits ask e false f is = goes_astray seen log past ask s f
 
       mark_kind : (k : Way) (ask : Ask) (e : way_of ask.kind ≡ k) → FitsCall w seen log k ask s → Outcome seen log k ask (mark_by k ask s s.tick (w.marks s.tick))
-      mark_kind Whole ask e f = goes_astray seen log Whole ask s f
-      mark_kind Light ask e f = light ask e _ _ f f.kind refl refl
-      mark_kind Past ask e f = walks_fits ask e _ f refl
+      mark_kind full ask e f = goes_astray seen log full ask s f
+      mark_kind quick ask e f = light ask e _ _ f f.kind refl refl
+      mark_kind past ask e f = walks_fits ask e _ f refl
 
     own_mark : (m : ℕ) (b : Bool) → (w.marks m == full_mark m) ≡ b → m < length w.journal → FitsMark w (mark_load m (w.marks m))
     own_mark m true is in-J = inl (eqb-true (w.marks m) (full_mark m) is)

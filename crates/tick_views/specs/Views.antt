@@ -1,7 +1,7 @@
 -- What each step makes of a view.
 use Rattle.std.specs.Prelude.{ℕ, ◌+◌, ◌/◌, max, Bool, true, false, List, [], ◌∷◌, ◌++◌, length, Option, Some, None}
 use Rattle.tick_reads.specs.declared.loads.Ask.{Ask}
-use Rattle.tick_views.specs.declared.views.Kept.{Kept}
+use Rattle.clock_logs.specs.declared.noted.Kept.{Kept}
 use Rattle.tick_views.specs.declared.views.MarkLoad.{MarkLoad}
 use Rattle.tick_views.specs.declared.views.PenView.{PenView}
 use Rattle.tick_views.specs.declared.views.PassView.{PassView}
@@ -11,14 +11,16 @@ use Rattle.clock_lines.specs.declared.readings.Kind.TheVariants as kind
 use Rattle.tick_reads.specs.declared.loads.Load.{Load}
 use Rattle.tick_reads.specs.declared.loads.Load.TheVariants.{Turn, Field, Mark, Counter}
 use Rattle.clock_lines.specs.declared.readings.Entry.{Entry}
-use Rattle.tick_views.specs.declared.views.Noted.{Noted}
+use Rattle.clock_logs.specs.declared.noted.Noted.{Noted}
 use Rattle.ff_hands.specs.Windups.{cold}
 use Rattle.hand_words.specs.Words.{unpack}
 use Rattle.tick_reads.specs.Scans.{Scan, fresh, after, run}
 
+-- a new table
 abbrev pub pen_first : PenView
 pen_first = record { journal = cold ∷ []; winding = false; marked = false; set = false; loaded = None; counters = []; top = 0; out = false; stored = []; made = 0; kept = [] }
 
+-- the steps of a windup, in their order
 abbrev pub turn_started : PenView → PenView
 turn_started p = record p { winding = true; marked = false; set = false; loaded = None; stored = [] }
 
@@ -45,6 +47,7 @@ turn_closed p = record p { journal = p.journal ++ unpack p.stored ∷ []; windin
 abbrev pub top_raised : ℕ → PenView → PenView
 top_raised to p = record p { top = max p.top to }
 
+-- a step of the pen changes the view of the pen alone, and so for the others
 abbrev pub on_pen : (PenView → PenView) → View → View
 on_pen f (Pen p) = Pen (f p)
 on_pen f (Pass v) = Pass v
@@ -83,6 +86,7 @@ new_pass number seen = record { number = number; seen = seen; turns = []; counte
 abbrev pub noted : Entry → ℕ → Noted
 noted entry opening = record { entry = entry; opening = opening }
 
+-- a call goes on while its loads decide nothing, and then gains an entry
 abbrev pub undecided : Option Entry → Bool
 undecided None = true
 undecided (Some e) = false
@@ -102,6 +106,7 @@ mark_load tick mark = record { tick = tick; mark = mark }
 abbrev pub settled : PassView → ℕ → List ℕ → List ℕ → List MarkLoad → Load → Scan → PassView
 settled v seen turns counters marks l s = record v { seen = seen; turns = turns; counters = counters; marks = marks; calling = undecided s.answer; loads = v.loads ++ l ∷ []; entries = gained v.entries s.answer s.first }
 
+-- each load of a call
 abbrev pub turn_loaded : ℕ → PassView → PassView
 turn_loaded w v = settled v (w / 2 + 1) (v.turns ++ w ∷ []) v.counters v.marks (Turn w) (after v.ask (scan_of v) (Turn w))
 
@@ -157,7 +162,7 @@ kept_of v = record { number = v.number; seen = v.seen; counters = v.counters; en
 abbrev pub pass_taken : PenView → PassView → PenView
 pass_taken p v = record p { kept = p.kept ++ kept_of v ∷ [] }
 
--- a note
+-- a note of what its maker had seen
 abbrev pub noted_cut : View → View
 noted_cut (Pen p) = Note (length p.journal)
 noted_cut (Pass v) = Note v.seen
@@ -168,7 +173,7 @@ noted_cut Spent = Spent
 abbrev pub learned : PassView → ℕ → PassView
 learned v seen = record v { seen = max v.seen seen }
 
--- the crank
+-- the crank is lent, and taken back
 abbrev pub crank_lent : PenView → PenView
 crank_lent p = record p { out = true }
 

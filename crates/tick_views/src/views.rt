@@ -1,27 +1,8 @@
 // What seats know. No value of these types is made: contracts alone speak of them.
-use clock_lines::Entry;
+use clock_logs::{Kept, Noted};
 use ff_hands::Hands;
 use std::collections::LinkedList;
 use tick_reads::{Ask, Load};
-
-/// An entry, with its opening value.
-#[derive(Clone, Copy)]
-pub struct Noted {
-    pub entry: Entry,
-    /// The first turn word that the entry's call loaded.
-    pub opening: u64,
-}
-
-/// What the pen keeps of a pass that it took in.
-pub struct Kept {
-    /// The pass's number, from 0.
-    pub number: u64,
-    /// How many ticks it had seen.
-    pub seen: u64,
-    /// The counters that it loaded, in counts below 2^62.
-    pub counters: LinkedList<u64>,
-    pub entries: LinkedList<Noted>,
-}
 
 /// A load of the mark of a tick's slot.
 #[derive(Clone, Copy)]
