@@ -1,4 +1,4 @@
--- What each step tells.
+-- What each step tells: of a seat that knew m before and m' after, at a word that was r before. A store is told the value, st.first.
 use Rattle.std.specs.Prelude.{◌≡◌, ℕ, ◌+◌, ◌-◌, ◌*◌, ◌%◌, ◌<◌, ◌≤◌, ◌^◌, max, ◌==◌, ◌&&◌, true, false, List, length, slice_get, slice_index, Some}
 use mathlib.Core.Option.{some}
 use lib.ListN.{get_elem?}
@@ -19,9 +19,11 @@ use Rattle.tick_views.specs.Worlds.{AllBelow, FitsKept}
 use Rattle.tick_views.specs.Views.{turn_started, mark_started, field_stored, mark_set, turn_closed, pen_counted, top_raised, on_pen, pen_of, on_crank, crank_of, scan_of, turn_loaded, counter_loaded, field_loaded, mark_loaded, call_begun, on_pass, pass_of}
 use Rattle.tick_table.specs.Rule.{IsOnce, turn_now, world_of}
 
+-- what a seat knows
 abbrev Sat : Type 0
 Sat = Me (Unit {0}) View
 
+-- the steps of a windup
 abbrev pub Starts : Step (Unit {0}) → Sat → ℕ → Sat → Type 0
 Starts st m r m' = m' ≡ (on_pen turn_started m.0, m.1)
 
@@ -56,6 +58,7 @@ LearnsHands s x = has_fields s ≡ true → x ≡ full_mark s.tick → (h : Hand
 abbrev pub LearnsAll : Ask → Scan → ℕ → Type 0
 LearnsAll ask s x = (needs_even (way_of ask.kind) && has_fields s && (length s.counters == 1)) ≡ true → x ≡ s.first → (h : Hands) × (s.fields ≡ pack h) × (unpack s.fields ≡ h) × IsSoundAt s.tick h × (h.count ≤ counter_of s)
 
+-- the loads of a call
 abbrev pub LoadsMark : Step (Unit {0}) → Sat → ℕ → Sat → Type 0
 LoadsMark st m r m' = (m' ≡ (on_pass (mark_loaded r) m.0, m.1)) × LearnsHands (scan_of (pass_of m.0)) r
 
@@ -65,7 +68,7 @@ LoadsTurn st m r m' = (m' ≡ (on_pass (turn_loaded r) m.0, m.1)) × LearnsTurn 
 abbrev pub LoadsCounter : Step (Unit {0}) → Sat → ℕ → Sat → Type 0
 LoadsCounter st m r m' = (m' ≡ (on_pass (counter_loaded r) m.0, m.1)) × AllBelow r (pass_of m.0).counters × (r < 2 ^ 62)
 
--- the pen's load of the counter
+-- what the pen learns of the counter: it is at least its top, and that where no crank is out
 pub record LearnsCounter (p : PenView) (c : ℕ) : Type 0 where
   pub top : p.top ≤ c
   pub home : p.out ≡ false → c ≡ p.top
@@ -85,10 +88,12 @@ Cranks st m r m' = (m' ≡ (on_crank (λ top. max top st.first) m.0, m.1)) × (c
 abbrev pub Opens : Ask → Step (Unit {0}) → Sat → ℕ → Sat → Type 0
 Opens ask st m r m' = (m' ≡ (on_pass (λ v. turn_loaded r (call_begun ask v)) m.0, m.1)) × LearnsTurn (pass_of m.0) r
 
+-- the field's number is by its word: three words stand before field 0 of a slot, and a slot has sixteen
 abbrev pub LoadsField : Step (Unit {0}) → Sat → ℕ → Sat → Type 0
 LoadsField st m r m' = m' ≡ (on_pass (field_loaded ((st.word - 3) % 16) r) m.0, m.1)
 
--- what the pen learns at a load of the turn word: all that it kept is legal over its journal
+-- What the pen learns at a load of the turn word: all that it kept is legal over its journal, beside the words that stood
+-- then, and no pass was taken in twice
 abbrev pub LegalLogs : PenView → Type 0
 LegalLogs p = IsJournal p.journal × IsOnce p.kept × ((words : List ℕ) × (p.out ≡ false → slice_index words 1 ≡ p.top) × ((i : ℕ) (k : Kept) → get_elem? p.kept i ≡ some k → FitsKept (world_of words p (length p.journal - 1)) k))
 
