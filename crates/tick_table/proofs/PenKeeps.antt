@@ -17,7 +17,7 @@ use Rattle.ff_hands.specs.Windups.{cold}
 use Rattle.ff_hands.specs.Journals.{Follows, IsJournal}
 use Rattle.hand_words.specs.Words.{pack, unpack}
 use Rattle.hand_words.proofs.Back.{length-pack, unpack-pack}
-use Rattle.hand_words.proofs.Leaps.{sound-leap}
+use Rattle.ff_hands.proofs.Ticks.{sound-leap}
 use Rattle.ff_hands.specs.Ranges.{FitsWords}
 use Rattle.clock_lines.specs.Readings.{newest}
 use Rattle.ff_hands.proofs.Sounding.{journal-push}
