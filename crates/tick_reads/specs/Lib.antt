@@ -1,0 +1,5 @@
+pub mod Ways
+pub mod Looks
+pub mod Scans
+pub mod Converts
+pub mod Reads

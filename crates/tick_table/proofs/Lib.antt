@@ -1,0 +1,5 @@
+pub mod Lists
+pub mod Numbering
+pub mod PenKeeps
+pub mod Closing
+pub mod PassKeeps

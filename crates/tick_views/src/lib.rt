@@ -1,0 +1,10 @@
+//! What each seat of a table of ticks knows, what a step makes of that, and what it must fit: a small
+//! world of the journal, the turn word, the marks and the counter. Nothing here knows of the table
+//! itself.
+#![tactic(auto)]
+
+mod laws;
+mod views;
+
+pub use laws::views_stay_fit;
+pub use views::{MarkLoad, PassView, PenView, View};
