@@ -32,11 +32,11 @@ among-starts : (freq : ℕ) (a : List Stamp) (xs : List StampLine) → (rest : L
 among-starts freq a [] = ([], sym (append-nil a))
 among-starts freq a (x ∷ xs) =
     let r = accept_of (last_of a) x.stamp freq in
-    let then = among-starts freq (accepted_with a x.stamp r) xs in
-    starts-with a x.stamp r then.0 (accepted_among freq (accepted_with a x.stamp r) xs) then.1
+    let later = among-starts freq (accepted_with a x.stamp r) xs in
+    starts-with a x.stamp r later.0 (accepted_among freq (accepted_with a x.stamp r) xs) later.1
 
 -- what is said of a stamp behind those before it is the line at its index
-AreSaid : (List Stamp → Stamp → List ℕ) → (ℕ → Stamp → List ℕ) → List Stamp → Type 0
+abbrev AreSaid : (List Stamp → Stamp → List ℕ) → (ℕ → Stamp → List ℕ) → List Stamp → Type 0
 AreSaid says line all = (front : List Stamp) (s : Stamp) (rest : List Stamp) → all ≡ front ++ (s ∷ rest) → says front s ≡ line (length front) s
 
 said-here : (says : List Stamp → Stamp → List ℕ) (line : ℕ → Stamp → List ℕ) (a : List Stamp) (s : Stamp) (r : Result (Unit {0}) Refused) (rest ys : List Stamp) → ys ≡ accepted_with a s r ++ rest → AreSaid says line ys → OnOk r (says a s ≡ line (length a) s)
@@ -54,8 +54,8 @@ told-lines says line freq a [] said = refl
 told-lines says line freq a (x ∷ xs) said =
     let r = accept_of (last_of a) x.stamp freq in
     let b = accepted_with a x.stamp r in
-    let then = among-starts freq b xs in
-    told-next says line a x.line x.stamp (outcomes freq b xs) r (said-here says line a x.stamp r then.0 (accepted_among freq b xs) then.1 said) (told-lines says line freq b xs said)
+    let later = among-starts freq b xs in
+    told-next says line a x.line x.stamp (outcomes freq b xs) r (said-here says line a x.stamp r later.0 (accepted_among freq b xs) later.1 said) (told-lines says line freq b xs said)
 
 report-lines : (head : ReportHead) (says : List Stamp → Stamp → List ℕ) (line : ℕ → Stamp → List ℕ) (freq : ℕ) (xs : List StampLine) → AreSaid says line (accepted_among freq [] xs) → report head says (outcomes freq [] xs) ≡ stamp_report head line (outcomes freq [] xs)
 unfolding report stamp_report

@@ -3,6 +3,7 @@ use Rattle.std.specs.Prelude.{◌≡◌, ℕ, ◌≤◌, Bool, true, false, ◌&
 use Rattle.std.specs.List.{All}
 use Rattle.std.specs.Option.{option_map}
 use Rattle.stamp_text.specs.Accepted.{IsInRange, accepted_all}
+use Rattle.stamp_text.specs.Format.{least_freq, greatest_freq}
 use Rattle.stamp_text.specs.Grammar.{given, given_of_file, fault_so_far, fault_of_file}
 use Rattle.stamp_text.specs.declared.lines.Line.{Line}
 use Rattle.stamp_text.specs.declared.lines.Line.TheVariants as gives
@@ -92,8 +93,8 @@ stamps_of_file text = stamps_in (given_of_file text)
 
 -- a frequency and stamps in their ranges
 pub record IsRanged (freq : ℕ) (stamps : List StampLine) : Type 0 where
-  pub low : 1000000 ≤ freq
-  pub high : freq ≤ 16000000000
+  pub low : least_freq ≤ freq
+  pub high : freq ≤ greatest_freq
   pub timed : All (λ x. IsInRange x.stamp) stamps
 
 -- what was read is that of a whole input that nothing stops

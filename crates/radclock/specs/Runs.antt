@@ -1,5 +1,5 @@
 -- What a run reads and writes, and with which status it ends.
-use Rattle.std.specs.Prelude.{◌≡◌, ℕ, ◌<◌, ◌≤◌, ◌⊎◌, true, List, [], ◌∷◌, length, Option, None, Some, Result}
+use Rattle.std.specs.Prelude.{◌≡◌, ℕ, ◌-◌, ◌^◌, ◌<◌, ◌≤◌, ◌⊎◌, true, List, [], ◌∷◌, length, Option, None, Some, Result}
 use Rattle.std.specs.List.{concat}
 use Rattle.std.specs.Io.KnownBytes.{Appends, Consumes, IsAtEnd}
 use Rattle.rad_io.specs.Pushes.{Wrote, Broke}
@@ -74,4 +74,4 @@ pub data WasDone (left left' written written' : Option (List ℕ)) (words : List
 -- the count of faults did not rise, and does not stand at its last value
 pub record WasFree (before now : ℕ) : Type 0 where
   pub same : now ≡ before
-  pub below : before < 18446744073709551615
+  pub below : before < 2 ^ 64 - 1

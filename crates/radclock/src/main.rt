@@ -30,7 +30,7 @@ pub use status::Status;
 use std::process::ExitCode;
 use std::{env, io};
 
-// All words, of which the first is the program's name. A word that is not text makes a list of none.
+// All words, the first of which is the program's name. Where one is not text there are none.
 fn owned_words<R: std::rt::Env + AllocGlobal>(rt: &R) -> Result<Vec<String>, NoMemory> {
     let mut words = Vec::new(rt.alloc());
     let args = match env::args(rt) {

@@ -19,9 +19,9 @@ fn ended(status: Status, last: Result<(), Failed>) -> Status
     }
 }
 
-/// Does the whole work of the program, and gives back the sink: all that it pushes goes to the sink in
-/// blocks of 65,536 bytes, and after a push that failed there is none. `NoMemory` where memory for a
-/// block is wanting; then nothing was pulled.
+/// Does the whole work of the program, and gives back the sink: all that is written goes to it in
+/// blocks of 65,536 bytes, and none follows a push that failed. `NoMemory` where memory for a block
+/// is wanting; then nothing was pulled.
 pub fn run_in_blocks<'w, S: Source, K: Sink>(
     alloc: Global,
     words: &'w [&'w str],
@@ -30,9 +30,12 @@ pub fn run_in_blocks<'w, S: Source, K: Sink>(
 ) -> Result<(Status, K), NoMemory>
 where
     K: Drop,
-    // Where no push failed, all that was due was written, and else the push of a block was the last.
-    ensures ends { IfOk result (λ r. EndsInBlocks S.left S.faults S.pull_gives K.written K.faults K.push_gives (map (λ w. w.now) words.entry.now) source.old source.new sink r.1 r.0) }
-    ensures done { IfOk result (λ r. r.0 ≡ Status.Done → WasDone (S.left source.old) (S.left source.new) (K.written sink) (K.written r.1) (map (λ w. w.now) words.entry.now)) }
+    // Where no push failed, all that was due is written, and else the one that failed was the last.
+    ensures ends { IfOk result (λ r. EndsInBlocks S.left S.faults S.pull_gives K.written K.faults
+        K.push_gives (map (λ w. w.now) words.entry.now) source.old source.new sink r.1 r.0) }
+    ensures done { IfOk result (λ r. r.0 ≡ Status.Done →
+        WasDone (S.left source.old) (S.left source.new) (K.written sink) (K.written r.1)
+        (map (λ w. w.now) words.entry.now)) }
     ensures early { OnErr result (source.new ≡ source.old) }
 {
     let mut blocks = BlockSink::new(alloc, sink)?;

@@ -2,6 +2,7 @@
 ghost use Rattle.std.specs.Prelude.{◌≡◌, ◌+◌, ◌≤◌, ◌<◌, ◌^◌, ℕ, List, [], ◌∷◌, ◌++◌, length, IfOk, IfSome, OnOk, MatchResult, Ok, Err};
 ghost use Rattle.rad_io.specs.Pushes.{Writes};
 ghost use Rattle.stamp_text.specs.Accepted.{IsInRange, accept_of, accepted_with, last_of};
+ghost use Rattle.stamp_text.specs.Format.{least_freq, greatest_freq};
 ghost use Rattle.stamp_text.specs.declared.lines.Stamp.{Stamp};
 ghost use Rattle.radclock.specs.Inputs.{IsRanged};
 ghost use Rattle.radclock.specs.Reports.{outcomes};
@@ -26,8 +27,11 @@ pub trait Telling {
         requires timed { IsInRange stamp.now }
         requires forward { stamp.now.ta ≤ stamp.now.tf }
         requires next { IsNext stands self.old index stamp.now }
-        ensures line { (freq : ℕ) (accepted : List Stamp) → length accepted ≡ index → stands self.old freq accepted → K.push_gives sink.old (says freq accepted stamp.now) result sink.new }
-        ensures stands { OnOk result ((freq : ℕ) (accepted : List Stamp) → length accepted ≡ index → stands self.old freq accepted → stands self.new freq (accepted ++ stamp.now ∷ [])) };
+        ensures line { (freq : ℕ) (accepted : List Stamp) → length accepted ≡ index →
+            stands self.old freq accepted →
+            K.push_gives sink.old (says freq accepted stamp.now) result sink.new }
+        ensures stands { OnOk result ((freq : ℕ) (accepted : List Stamp) → length accepted ≡ index →
+            stands self.old freq accepted → stands self.new freq (accepted ++ stamp.now ∷ [])) };
 }
 
 /// How far a report has come.
@@ -47,14 +51,22 @@ fn push_stamp<K: Sink, T: Telling>(
     tally: Tally,
     x: &StampLine,
 ) -> Result<Tally, Failed>
-    requires low { 1000000 ≤ freq }
-    requires high { freq ≤ 16000000000 }
+    requires low { least_freq ≤ freq }
+    requires high { freq ≤ greatest_freq }
     requires before { IfSome tally.prev IsInRange }
     requires now { IsInRange x.now.stamp }
     requires few { tally.accepted + tally.refused < 2 ^ 63 }
     requires at { (accepted : List Stamp) × StandsAt T.stands telling.old freq tally accepted }
-    ensures line { (accepted : List Stamp) → StandsAt T.stands telling.old freq tally accepted → MatchResult result (λ _. K.push_gives sink.old (told_of (T.says freq) accepted x.now.line x.now.stamp (accept_of (last_of accepted) x.now.stamp freq)) (Ok tt) sink.new) (λ e. K.push_gives sink.old (told_of (T.says freq) accepted x.now.line x.now.stamp (accept_of (last_of accepted) x.now.stamp freq)) (Err e) sink.new) }
-    ensures next { IfOk result (λ t. (accepted : List Stamp) → StandsAt T.stands telling.old freq tally accepted → StandsAt T.stands telling.new freq t (accepted_with accepted x.now.stamp (accept_of (last_of accepted) x.now.stamp freq))) }
+    ensures line { (accepted : List Stamp) → StandsAt T.stands telling.old freq tally accepted →
+        MatchResult result (λ _. K.push_gives sink.old
+        (told_of (T.says freq) accepted x.now.line x.now.stamp
+        (accept_of (last_of accepted) x.now.stamp freq)) (Ok tt) sink.new)
+        (λ e. K.push_gives sink.old (told_of (T.says freq) accepted x.now.line x.now.stamp
+        (accept_of (last_of accepted) x.now.stamp freq)) (Err e) sink.new) }
+    ensures next { IfOk result (λ t. (accepted : List Stamp) →
+        StandsAt T.stands telling.old freq tally accepted →
+        StandsAt T.stands telling.new freq t
+        (accepted_with accepted x.now.stamp (accept_of (last_of accepted) x.now.stamp freq))) }
     ensures counts { IfOk result (λ t. Counts tally t (accept_of tally.prev x.now.stamp freq)) }
     ensures timed { IfOk result (λ t. IfSome t.prev IsInRange) }
 {
@@ -87,7 +99,9 @@ pub fn push_report<K: Sink, T: Telling>(
 ) -> Result<(), Failed>
     requires ranged { IsRanged file.now.freq file.now.stamps.items }
     requires fresh { T.stands telling.old file.now.freq [] }
-    ensures { Writes K.written K.faults K.push_gives sink.old (report head.now (T.says file.now.freq) (outcomes file.now.freq [] file.now.stamps.items)) result sink.new }
+    ensures { Writes K.written K.faults K.push_gives sink.old
+        (report head.now (T.says file.now.freq) (outcomes file.now.freq [] file.now.stamps.items))
+        result sink.new }
 {
     head_line(sink, head)?;
     let mut tally = Tally {

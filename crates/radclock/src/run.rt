@@ -35,7 +35,8 @@ use step_count::Steps;
 
 // Pushes a fault line, and ends.
 fn refuse<K: Sink>(sink: &mut K, fault: FaultText, due: Status) -> Status
-    ensures { EndsWith K.written K.faults K.push_gives sink.old (fault_text fault ∷ []) due result sink.new }
+    ensures { EndsWith K.written K.faults K.push_gives sink.old (fault_text fault ∷ []) due result
+        sink.new }
 {
     match fault_line(sink, &fault) {
         Ok(()) => due,
@@ -52,7 +53,9 @@ fn report<K: Sink, T: Telling>(
 ) -> Status
     requires ranged { IsRanged file.now.freq file.now.stamps.items }
     requires fresh { T.stands telling.old file.now.freq [] }
-    ensures { EndsWith K.written K.faults K.push_gives sink.old (report head.now (T.says file.now.freq) (outcomes file.now.freq [] file.now.stamps.items)) Status.Done result sink.new }
+    ensures { EndsWith K.written K.faults K.push_gives sink.old
+        (report head.now (T.says file.now.freq) (outcomes file.now.freq [] file.now.stamps.items))
+        Status.Done result sink.new }
 {
     match push_report(sink, telling, head, file) {
         Ok(()) => Status::Done,
@@ -62,7 +65,8 @@ fn report<K: Sink, T: Telling>(
 
 // Pushes the report on the journal of a clock, and ends.
 fn report_ticks<K: Sink>(sink: &mut K, head: &ReportHead, played: &Played) -> Status
-    ensures { EndsWith K.written K.faults K.push_gives sink.old (ticks_text head.now played.now.core.ticks played.now.counts) Status.Done result sink.new }
+    ensures { EndsWith K.written K.faults K.push_gives sink.old
+        (ticks_text head.now played.now.core.ticks played.now.counts) Status.Done result sink.new }
 {
     match push_ticks(sink, head, played.core.ticks(), &played.counts) {
         Ok(()) => Status::Done,
@@ -70,8 +74,8 @@ fn report_ticks<K: Sink>(sink: &mut K, head: &ReportHead, played: &Played) -> St
     }
 }
 
-// Takes the memory that a report wants, pushes it, and ends. The comparisons of round trips are counted
-// in a ledger of their own, which ends here.
+// Takes the memory that a report wants, pushes it, and ends. The comparisons of round trips are
+// counted in a ledger of their own, which ends here.
 #[tactic(auto, unfolding(crate::specs::Reports::report_of))]
 fn finish<K: Sink, L: Ledger>(
     alloc: Global,
@@ -85,7 +89,8 @@ fn finish<K: Sink, L: Ledger>(
     requires some { 0 < blank.parts }
     requires asked { IsReportInRange asked }
     requires ranged { IsRanged file.now.freq file.now.stamps.items }
-    ensures { Finishes K.written K.faults K.push_gives sink.old (report_of asked file.now.freq file.now.stamps.items) result sink.new }
+    ensures { Finishes K.written K.faults K.push_gives sink.old
+        (report_of asked file.now.freq file.now.stamps.items) result sink.new }
 {
     let freq = file.freq;
     let mut steps = Steps::<L>::new(blank);
@@ -117,7 +122,8 @@ fn make<K: Sink>(sink: &mut K, number: u64, count: u32) -> Status
     requires number { number < 2 ^ 32 }
     requires some { 1 ≤ count }
     requires most { count ≤ 16384 }
-    ensures { EndsWith K.written K.faults K.push_gives sink.old (file_lines_of (made_list number count)) Status.Done result sink.new }
+    ensures { EndsWith K.written K.faults K.push_gives sink.old
+        (file_lines_of (made_list number count)) Status.Done result sink.new }
 {
     match push_made(sink, number, count) {
         Ok(()) => Status::Done,
@@ -132,7 +138,8 @@ fn answer<'w, S: Source, K: Sink>(
     source: &mut S,
     sink: &mut K,
 ) -> Status
-    ensures { Ends S.left S.faults S.pull_gives K.written K.faults K.push_gives (map (λ w. w.now) words.entry.now) source.old source.new sink.old sink.new result }
+    ensures { Ends S.left S.faults S.pull_gives K.written K.faults K.push_gives
+        (map (λ w. w.now) words.entry.now) source.old source.new sink.old sink.new result }
 {
     let asked = match command_of(alloc, words) {
         Ok(Some(Command::Report(asked))) => asked,
@@ -146,9 +153,10 @@ fn answer<'w, S: Source, K: Sink>(
     }
 }
 
-/// Does the whole work of the program: reads the words after the program's name, then, where they ask
-/// for a report, the whole input in pieces of 4,096 bytes, and then writes the report or the made file
-/// that the words ask for, or the one line of a fault. All memory is taken before the first push.
+/// Does the whole work of the program: reads the words after the program's name, then, where they
+/// ask for a report, the whole input in pieces of 4,096 bytes, and then writes the report or the
+/// made file that the words ask for, or the one line of a fault. All memory is taken before the
+/// first push.
 pub fn run<'w, S: Source, K: Sink>(
     alloc: Global,
     words: &'w [&'w str],
@@ -156,16 +164,27 @@ pub fn run<'w, S: Source, K: Sink>(
     sink: &mut K,
 ) -> Status
     // Which status comes, when it comes, and what was then pulled and pushed.
-    ensures ends { Ends S.left S.faults S.pull_gives K.written K.faults K.push_gives (map (λ w. w.now) words.entry.now) source.old source.new sink.old sink.new result }
+    ensures ends { Ends S.left S.faults S.pull_gives K.written K.faults K.push_gives
+        (map (λ w. w.now) words.entry.now) source.old source.new sink.old sink.new result }
 
     // What was appended, in bytes.
-    ensures done { result ≡ Status.Done → WasDone (S.left source.old) (S.left source.new) (K.written sink.old) (K.written sink.new) (map (λ w. w.now) words.entry.now) }
+    ensures done { result ≡ Status.Done →
+        WasDone (S.left source.old) (S.left source.new) (K.written sink.old) (K.written sink.new)
+        (map (λ w. w.now) words.entry.now) }
 
     // The words decide alone where they are no line or ask for a made file, and else the input, where
     // nothing else interferes and memory is there.
-    ensures usage { command_in (map (λ w. w.now) words.entry.now) ≡ None → (result ≡ Status.Usage) ⊎ ((result ≡ Status.WriteFault) ⊎ (result ≡ Status.NoMemory)) }
-    ensures complete { (asked : Report) (text : List ℕ) → command_in (map (λ w. w.now) words.entry.now) ≡ Some (command.Report asked) → S.left source.old ≡ Some text → WasFree (S.faults source.old) (S.faults source.new) → WasFree (K.faults sink.old) (K.faults sink.new) → (result ≡ status_by (stop_of_file (takes_few asked) text)) ⊎ (result ≡ Status.NoMemory) }
-    ensures made { (number count : ℕ) → command_in (map (λ w. w.now) words.entry.now) ≡ Some (command.Make number count) → WasFree (K.faults sink.old) (K.faults sink.new) → (result ≡ Status.Done) ⊎ (result ≡ Status.NoMemory) }
+    ensures usage { command_in (map (λ w. w.now) words.entry.now) ≡ None →
+        (result ≡ Status.Usage) ⊎ ((result ≡ Status.WriteFault) ⊎ (result ≡ Status.NoMemory)) }
+    ensures complete { (asked : Report) (text : List ℕ) →
+        command_in (map (λ w. w.now) words.entry.now) ≡ Some (command.Report asked) →
+        S.left source.old ≡ Some text → WasFree (S.faults source.old) (S.faults source.new) →
+        WasFree (K.faults sink.old) (K.faults sink.new) →
+        (result ≡ status_by (stop_of_file (takes_few asked) text)) ⊎ (result ≡ Status.NoMemory) }
+    ensures made { (number count : ℕ) →
+        command_in (map (λ w. w.now) words.entry.now) ≡ Some (command.Make number count) →
+        WasFree (K.faults sink.old) (K.faults sink.new) →
+        (result ≡ Status.Done) ⊎ (result ≡ Status.NoMemory) }
 {
     answer(alloc, words, source, sink)
 }

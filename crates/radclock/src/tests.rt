@@ -184,6 +184,7 @@ fn many_stamps_are_told(rt: HostRuntime) -> Result<(), Fail> {
 }
 
 // A writer that takes so many writes whole and fails each other one. It counts all.
+#[derive(Drop)]
 struct Halting {
     left: u32,
     writes: u32,
