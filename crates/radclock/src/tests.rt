@@ -34,9 +34,14 @@ const OUTSIDE: Outside = Outside {
 fn words_of(alloc: Global, line: &'static str) -> Result<Vec<&'static str>, Fail> {
     let mut words = Vec::new(alloc);
     let mut rest = line;
-    while let Some((word, more)) = rest.split_once(' ') {
-        words.push(word)?;
-        rest = more;
+    for _ in 0..line.len() {
+        match rest.split_once(' ') {
+            Some((word, more)) => {
+                words.push(word)?;
+                rest = more;
+            }
+            None => break,
+        }
     }
     if !line.is_empty() {
         words.push(rest)?;
