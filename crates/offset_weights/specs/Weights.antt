@@ -1,5 +1,5 @@
 -- How much an exchange counts, by its round trip and its age.
-use Rattle.std.specs.Prelude.{ℕ, ◌+◌, ◌*◌, ◌/◌, List, [], ◌∷◌, slice_index_or}
+use Rattle.std.specs.Prelude.{ℕ, ◌+◌, ◌*◌, ◌/◌, ◌^◌, List, [], ◌∷◌, slice_index_or}
 use Rattle.ff_grain.specs.Scales.{trip_scale}
 
 -- the weights of the rows from 0 on
@@ -8,7 +8,7 @@ table = 65536 ∷ 64520 ∷ 61565 ∷ 56939 ∷ 51039 ∷ 44344 ∷ 37341 ∷ 30
 
 -- the counts by which a round trip is above the least one, and one more for each 2^23 counts of age
 abbrev pub aged_excess : ℕ → ℕ → ℕ
-aged_excess excess age = excess + age / 8388608
+aged_excess excess age = excess + age / 2 ^ 23
 
 -- how many eighths of the scale of round trips that is
 abbrev pub row_of : ℕ → ℕ → ℕ → ℕ

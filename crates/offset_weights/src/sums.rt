@@ -25,6 +25,12 @@ impl Model for Sums {
     ghost invariant = { λ s. IsBounded s.added s.weight s.time s.spread };
 }
 
+impl Default for Sums {
+    fn default() -> Sums {
+        Sums::new()
+    }
+}
+
 impl Sums {
     ghost use Rattle.offset_weights.specs.Means.{Term, StandsFor, mean_of, numbers_of};
 
@@ -51,7 +57,9 @@ impl Sums {
         requires few { self.old.added < 32 }
         requires time { twice_time < 2 ^ 98 }
         requires spread { twice_spread < 2 ^ 98 }
-        ensures stands { (terms : List Term) → StandsFor self.old terms → StandsFor self.new (terms ++ record { weight = weight; twice_time = twice_time; twice_spread = twice_spread } ∷ []) }
+        ensures stands { (terms : List Term) → StandsFor self.old terms →
+            let term : Term = record { weight = weight; twice_time = twice_time; twice_spread = twice_spread } in
+            StandsFor self.new (terms ++ term ∷ []) }
         ensures added { self.new.added ≡ self.old.added + 1 }
     {
         self.added += 1;

@@ -1,6 +1,6 @@
 // The weight of an exchange by its round trip and its age.
-ghost use Rattle.std.specs.Prelude.{◌≡◌, ◌^◌, ◌<◌, ◌≤◌};
-ghost use Rattle.offset_weights.specs.Weights.{weight_of};
+ghost use Rattle.std.specs.Prelude.{◌≡◌, ◌^◌, ◌<◌, ◌≤◌, slice_index_or};
+ghost use Rattle.offset_weights.specs.Weights.{table, weight_of};
 
 use ff_grain::trip_scale;
 
@@ -19,6 +19,13 @@ const AGE_OF_COUNT: u64 = 1 << 23;
 /// The rows of `WEIGHTS` within one scale of round trips.
 const ROWS_OF_SCALE: u64 = 8;
 
+// The entry of a row, and 0 behind the last one.
+fn weight_of_row(row: u64) -> u32
+    ensures { result ≡ slice_index_or table row 0 }
+{
+    WEIGHTS.get(row as usize).copied().unwrap_or(0)
+}
+
 /// The weight of an exchange for the time of now, from 0 to 65536.
 ///
 /// `excess` is by how many counts its round trip is above the least one, below 2^40. `age` is how
@@ -28,7 +35,7 @@ const ROWS_OF_SCALE: u64 = 8;
 /// The excess grows by one count for each 2^23 counts of age, since an old exchange says less of
 /// now, and each eighth of the scale is a row of `WEIGHTS`. The weight is 0 from row 25 on. After
 /// the point errors of Veitch, Ridoux and Korada.
-#[tactic(auto, using(crate::proofs::WeightLaws::weight_of_past), unfolding(crate::specs::Weights::weight_of))]
+#[tactic(auto, unfolding(crate::specs::Weights::weight_of))]
 pub fn weight(excess: u64, age: u64, freq: u64) -> u32
     requires excess { excess < 2 ^ 40 }
     requires freq { freq ≤ 16000000000 }
@@ -36,11 +43,7 @@ pub fn weight(excess: u64, age: u64, freq: u64) -> u32
     ensures most { result ≤ 65536 }
 {
     let aged = excess + age / AGE_OF_COUNT;
-    let row = ROWS_OF_SCALE * aged / trip_scale(freq);
-    match WEIGHTS.get(row as usize) {
-        Some(weight) => *weight,
-        None => 0,
-    }
+    weight_of_row(ROWS_OF_SCALE * aged / trip_scale(freq))
 }
 
 #[cfg(test)]

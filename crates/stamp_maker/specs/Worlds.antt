@@ -1,6 +1,6 @@
 -- The made world: a counter, and the true time at each of its counts.
 use Rattle.std.specs.Prelude.{ℕ, pos, ◌+◌, ◌*◌}
-use Rattle.ff_grain.specs.Grains.{of_grains}
+use Rattle.ff_grain.specs.Grains.{second, of_grains}
 use Rattle.ff_grain.specs.declared.bintime.Bintime.{Bintime}
 
 -- the nominal frequency of the counter, in Hz
@@ -13,7 +13,7 @@ period = 7686343364
 
 -- the true time at count 0, which is 1700000000 s, in grains
 abbrev pub start : ℕ
-start = 1700000000 * 18446744073709551616
+start = 1700000000 * second
 
 -- the true time at a count
 abbrev pub true_time : ℕ → Bintime

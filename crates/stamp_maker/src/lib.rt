@@ -12,8 +12,8 @@ mod tests;
 mod world;
 
 pub use laws::{
-    lists_are_whole, lists_grow, period_is_believed, stamps_are_accepted, stamps_are_true,
-    stamps_are_within,
+    lists_are_whole, lists_grow, period_is_believed, round_trips_are_within, server_times_are_true,
+    stamps_are_accepted, stamps_are_true, stamps_are_within,
 };
 pub use made::Made;
 pub use maker::Maker;

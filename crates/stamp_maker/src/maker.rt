@@ -1,8 +1,8 @@
 // Stamps, one after the other.
-ghost use Rattle.std.specs.Prelude.{◌≡◌, ◌+◌, ◌^◌, ◌<◌, ◌≤◌, IfSome, OnSome, IfNone};
+ghost use Rattle.std.specs.Prelude.{◌≡◌, ◌+◌, ◌^◌, ◌<◌, ◌≤◌, IfSome, OnSome, MatchOption};
 ghost use Rattle.stamp_maker.specs.MadeStamps.{made, IsWithin};
 
-use crate::draws::{departure, detour, draw, service, way};
+use crate::draws::{backward_delay, departure, draw, forward_delay, service};
 use crate::made::{Made, exchange};
 use rand_pcg::Lcg64Xsh32;
 use std::marker::Model;
@@ -45,12 +45,14 @@ impl Maker {
 
     /// The next stamp, or `None` where all were made, and then nothing changes any more.
     pub fn next(&mut self) -> Option<Made>
-        ensures made { IfSome result (λ m. m ≡ made self.old.number self.old.count self.old.made) }
+        ensures made { MatchOption result
+            (self.old.made ≡ self.old.count)
+            (λ m. m ≡ made self.old.number self.old.count self.old.made) }
+        ensures counted { MatchOption result
+            (self.new ≡ self.old)
+            (λ _. self.new ≡ record self.old { made = self.old.made + 1 }) }
         ensures left { OnSome result (self.old.made < self.old.count) }
-        ensures counted { OnSome result (self.new ≡ record self.old { made = self.old.made + 1 }) }
         ensures within { IfSome result IsWithin }
-        ensures all { IfNone result (self.old.made ≡ self.old.count) }
-        ensures kept { IfNone result (self.new ≡ self.old) }
     {
         if self.made >= self.count {
             return None;
@@ -60,9 +62,9 @@ impl Maker {
         self.made += 1;
         Some(exchange(
             departure(i, first),
-            way(second) + detour(self.count, i),
+            forward_delay(self.count, i, second),
             service(third),
-            way(fourth),
+            backward_delay(fourth),
         ))
     }
 }
