@@ -3,7 +3,6 @@
 -- its number's last digit, and the mark of tick n in its slot is 2n+2.
 use Rattle.std.specs.Prelude.{◌≡◌, ℕ, ◌+◌, ◌-◌, ◌*◌, ◌/◌, ◌%◌, ◌<◌, ◌≤◌, ◌⊎◌, ⊤, List, length, slice_get, Option, None, Some}
 use Rattle.ff_hands.specs.declared.hands.Hands.{Hands}
-use Rattle.clock_lines.specs.declared.readings.Reading.{Reading}
 use Rattle.clock_lines.specs.declared.readings.Entry.{Entry}
 use Rattle.clock_lines.specs.declared.readings.Entry.TheVariants as entry
 use Rattle.clock_logs.specs.Legal.{Way, full, quick, past, way_of, IsReading}

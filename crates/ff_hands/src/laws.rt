@@ -1,5 +1,5 @@
 // What holds of windups, of journals, and of all hands that stand in one.
-ghost use Rattle.std.specs.Prelude.{◌≡◌, ◌≢◌, ℕ, ◌-◌, true, List, [], ◌∷◌, ◌++◌, length, slice_get, Some, ◌-ℤ◌};
+ghost use Rattle.std.specs.Prelude.{◌≡◌, ◌≢◌, ℕ, ◌-◌, ◌^◌, ◌<◌, true, List, [], ◌∷◌, ◌++◌, length, slice_get, Some, pos, neg_ℤ, ◌-ℤ◌, ◌≤ℤ◌};
 ghost use Rattle.std.specs.List.Sorted.{IsNonDecreasingBy};
 ghost use Rattle.ff_grain.specs.Grains.{number_of};
 ghost use Rattle.ff_hands.specs.Bounds.{IsBounded};
@@ -49,9 +49,12 @@ pub fn sound_hands_are_bounded()
     ensures { (h : Hands) → IsSound h → IsBounded h }
 {}
 
-/// The law that the estimate of sound hands is sane, its leap second too.
+/// The law that the estimate of sound hands is sane: also its leap second is at most one, and is due at a
+/// count below 2^62.
 pub fn estimates_are_sane()
-    ensures { (h : Hands) → IsSound h → is_sane_estimate h.est ≡ true }
+    ensures sane { (h : Hands) → IsSound h → is_sane_estimate h.est ≡ true }
+    ensures leap { (h : Hands) → IsSound h → (neg_ℤ (pos 1) ≤ℤ h.est.leapsec) × (h.est.leapsec ≤ℤ pos 1) }
+    ensures next { (h : Hands) → IsSound h → h.est.leapsec_next < 2 ^ 62 }
 {}
 
 /// The law that from tick to tick of a journal the uninterrupted clock goes on where it is, but for resets

@@ -1,5 +1,11 @@
-use Rattle.ff_hands.proofs.Ticks.{sound-sane}
+use Rattle.ff_hands.proofs.Ticks.{sound-sane, sound-leap, sound-next}
 use Rattle.ff_hands.proofs.laws.estimates_are_sane.Goals as goal
 
-pub returns : goal.returns
-returns c = sound-sane
+pub returns-clause-sane : goal.returns-clause-sane
+returns-clause-sane c = sound-sane
+
+pub returns-clause-leap : goal.returns-clause-leap
+returns-clause-leap c = sound-leap
+
+pub returns-clause-next : goal.returns-clause-next
+returns-clause-next c = sound-next
