@@ -1,7 +1,7 @@
 -- A window with one more stamp.
 use Rattle.std.proofs.Common.{◌≡◌, ℕ, ◌+◌, ◌-◌, ◌<◌, ◌≤◌, List, [], ◌∷◌, ◌++◌, length, drop, take, map, max, min, get_or, slice_range, Some, IfSome, Ok, inl, inr, refl, sym, ap, ap₂, ◌∙◌, subst, arith, length-drop, suc}
 use Rattle.std.proofs.lemmas.Grind.{common_steps}
-use Rattle.std.proofs.lemmas.List.{drop-drop, drop-map, take_all, take_rest, drop-append-le, length-map, length_push, map_push, get_or_push, get_or-drop}
+use Rattle.std.proofs.lemmas.List.{drop-drop, drop-map, take_all, drop-append-le, length-map, length_push, map_push, get_or_push, get_or-drop}
 use Rattle.std.proofs.lemmas.Option.{slice_get_cases, slice_get-get_or}
 use Rattle.circular_buffer.specs.Buffer.{buffer, keep_last}
 use Rattle.min_lists.specs.declared.which.Which.{Which}
