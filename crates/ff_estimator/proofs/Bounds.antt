@@ -24,13 +24,13 @@ count_of-below (Some p) s freq e =
 -- a time and its spread at a count, as those of `IsTakenBounded`
 pub record IsWithin (p : ℤ × ℕ) (count : ℕ) : Type 0 where
   pub low : pos 0 ≤ℤ p.0
-  pub high : p.0 ≤ℤ pos (158456325028528675187087900672 + 35184372088832 * count)
-  pub spread : p.1 ≤ 158456325028528675187087900673 + 35184372088832 * count
+  pub high : p.0 ≤ℤ pos (2 ^ 97 + 2 ^ 45 * count)
+  pub spread : p.1 ≤ 2 ^ 97 + 1 + 2 ^ 45 * count
 
 pub predicted-within : (rate : Rate) (t : Taken) (before now : ℕ) → rate.period < 2 ^ 45 → rate.high < 2 ^ 45 → before ≤ now → IsTakenBounded t before → IsWithin (predicted_by rate (now - before) t) now
 predicted-within rate t before now period high order is =
-    let time : rate.period * (now - before) ≤ 35184372088832 * (now - before) = mul-le-mul_right (now - before) (omega arith) in
-    let spread : rate_error rate * (now - before) ≤ 35184372088832 * (now - before) = mul-le-mul_right (now - before) (omega arith) in
+    let time : rate.period * (now - before) ≤ 2 ^ 45 * (now - before) = mul-le-mul_right (now - before) (omega arith) in
+    let spread : rate_error rate * (now - before) ≤ 2 ^ 45 * (now - before) = mul-le-mul_right (now - before) (omega arith) in
     record { low = omega (arith, ints, is.low); high = omega (arith, ints, is.high); spread = omega (arith, is.spread) }
 
 pub chosen-bounded : (i run : ℕ) (predicted : ℤ × ℕ) (mean : Option (ℤ × ℕ)) (count : ℕ) → run ≤ 32 → IsWithin predicted count → IfSome mean (λ m. (pos 0 ≤ℤ m.0) × (m.0 <ℤ pos (2 ^ 97))) → IfSome mean (λ m. m.1 ≤ 2 ^ 97 + 1) → IsTakenBounded (chosen i run predicted mean) count

@@ -42,7 +42,7 @@ pub count-is : (all : List Stamp) (i : ℕ) (d : Stamp) → i < length all → c
 count-is all i d here = get_or-map (λ s. s.tf) all i d 0 here
 
 -- the counts of accepted stamps are below 2^62, above 0, and rise
-count-below : (freq : ℕ) (all : List Stamp) (i : ℕ) → AreAccepted freq all → i < length all → count_at all i < 4611686018427387904
+count-below : (freq : ℕ) (all : List Stamp) (i : ℕ) → AreAccepted freq all → i < length all → count_at all i < 2 ^ 62
 count-below freq all i are here = omega (arith, count-is all i blank here, (are.timed i blank here).tf)
 
 pub count-late : (freq : ℕ) (all : List Stamp) (i : ℕ) → AreAccepted freq all → i < length all → 0 < count_at all i

@@ -1,5 +1,5 @@
 -- What a daemon keeps, and which accepted stamps that stands for.
-use Rattle.std.specs.Prelude.{◌≡◌, ℕ, ℤ, ◌+◌, ◌-◌, ◌*◌, ◌≤◌, pos, ◌≤ℤ◌, max, if◌then◌else◌, List, length, map, drop, Option, None, Some}
+use Rattle.std.specs.Prelude.{◌≡◌, ℕ, ℤ, ◌+◌, ◌-◌, ◌*◌, ◌^◌, ◌≤◌, pos, ◌≤ℤ◌, max, if◌then◌else◌, List, length, map, drop, Option, None, Some}
 use Rattle.stamp_text.specs.Accepted.{last_of}
 use Rattle.stamp_text.specs.declared.lines.Stamp.{Stamp}
 use Rattle.rtt_window.specs.Windows as windows
@@ -50,8 +50,8 @@ count_of (Some s) = s.tf
 -- a time that is not negative, and with its spread grows by at most 2^45 grains a count
 pub record IsTakenBounded (t : Taken) (count : ℕ) : Type 0 where
   pub low : pos 0 ≤ℤ t.time
-  pub high : t.time ≤ℤ pos (158456325028528675187087900672 + 35184372088832 * count)
-  pub spread : t.spread ≤ 158456325028528675187087900673 + 35184372088832 * count
+  pub high : t.time ≤ℤ pos (2 ^ 97 + 2 ^ 45 * count)
+  pub spread : t.spread ≤ 2 ^ 97 + 1 + 2 ^ 45 * count
   pub run : t.run ≤ 32
 
 -- what every daemon has

@@ -1,5 +1,5 @@
 -- A plan fits a clock, step after step.
-use Rattle.std.proofs.Common.{◌≡◌, ℕ, zero, suc, ◌+◌, ◌-◌, ◌*◌, ◌/◌, ◌<◌, ◌≤◌, true, List, [], ◌∷◌, ◌++◌, map, refl, arith}
+use Rattle.std.proofs.Common.{◌≡◌, ℕ, zero, suc, ◌+◌, ◌-◌, ◌*◌, ◌/◌, ◌^◌, ◌<◌, ◌≤◌, true, List, [], ◌∷◌, ◌++◌, map, refl, arith}
 use Rattle.std.specs.List.{range_with_len}
 use Rattle.std.proofs.Math.Nat.{div-le_of_le-mul, div-mul-le_self, mul-le-mul_right}
 use Rattle.std.proofs.lemmas.Nat.{le-div}
@@ -32,7 +32,7 @@ between-within ticks from to m order few =
     omega arith
 
 -- steps at which the clock goes on fit, where what follows fits whenever they end
-between-fits : (ticks from to update n m before : ℕ) (rest : List PlanStep) → from ≤ to → to < 4611686018427387904 → m + n ≤ ticks + 1 → before ≤ count_between ticks from to m
+between-fits : (ticks from to update n m before : ℕ) (rest : List PlanStep) → from ≤ to → to < 2 ^ 62 → m + n ≤ ticks + 1 → before ≤ count_between ticks from to m
     → ((count : ℕ) → count ≤ to → PlanFits count update rest) → PlanFits before update (map (plain_step ticks from to) (range_with_len m n) ++ rest)
 between-fits ticks from to update zero m before rest order most few later then =
     let end = between-within ticks from to m order (omega arith) in
@@ -62,7 +62,7 @@ from-fits e (next ∷ es) ticks before update are later newer =
     let from : ℕ = e.update_ffcount in
     let to : ℕ = next.update_ffcount in
     let rises : from < to = are.rising 0 1 e (omega arith) (omega arith) in
-    let most : to < 4611686018427387904 = (sane-is next (are.sane 1 e (omega arith))).update in (
+    let most : to < 2 ^ 62 = (sane-is next (are.sane 1 e (omega arith))).update in (
       take-fits e (next ∷ es) before update are later newer,
       between-fits ticks from to from ticks 1 from (steps_from (next ∷ es) ticks) (omega arith) most (omega arith) (omega arith) (λ count within. from-fits next es ticks count from (tail-taken e (next ∷ es) are) within rises),
     )

@@ -1,5 +1,5 @@
 -- The journal that steps make, and that no other is like it.
-use Rattle.std.proofs.Common.{◌≡◌, ℕ, zero, suc, ◌+◌, ◌<◌, ◌≤◌, true, false, Bool, List, [], ◌∷◌, length, map, get_or, slice_get, Some, refl, sym, ap, ap₂, ◌∙◌, subst, arith}
+use Rattle.std.proofs.Common.{◌≡◌, ℕ, zero, suc, ◌+◌, ◌≤◌, true, false, Bool, List, [], ◌∷◌, length, map, get_or, slice_get, Some, refl, sym, ap, ap₂, ◌∙◌, subst, arith}
 use Rattle.std.specs.Option.{option_map}
 use Rattle.std.proofs.lemmas.List.{length-map}
 use Rattle.std.proofs.lemmas.Option.{slice_get_within, slice_get-get_or, slice_get-map, get_or_from_slice_get}
@@ -10,7 +10,7 @@ use Rattle.ff_hands.specs.declared.hands.Hands.{Hands}
 use Rattle.ff_hands.specs.declared.hands.Order.{Order}
 use Rattle.ff_hands.specs.declared.hands.Order.TheVariants as order
 use Rattle.ff_hands.proofs.Winding.{order_of-wound, count-wound}
-use Rattle.replay_run.specs.Fitting.{StepFits, PlanFits}
+use Rattle.replay_run.specs.Fitting.{PlanFits}
 use Rattle.replay_run.specs.Journals.{ticks_from, journal_of, greatest, IsTickOf, AreTicksOf, IsJournalOf}
 use Rattle.replay_run.specs.declared.plan.PlanStep.{PlanStep}
 use Rattle.replay_run.proofs.Playing.{step-fits, update-wound}

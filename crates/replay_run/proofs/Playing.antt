@@ -1,5 +1,5 @@
 -- A step that fits a clock is not refused.
-use Rattle.std.proofs.Common.{◌≡◌, ℕ, ◌<◌, ◌≤◌, Bool, true, false, cond, refl, arith}
+use Rattle.std.proofs.Common.{◌≡◌, ℕ, ◌^◌, ◌<◌, ◌≤◌, Bool, true, false, cond, refl, arith}
 use Rattle.std.proofs.lemmas.Bool.Decides.{nat_tests}
 use Rattle.ff_hands.specs.Orders.{is_in_time, fits}
 use Rattle.ff_hands.specs.Windups.{jumps, take_jump, take_on, wind_of}
@@ -17,7 +17,7 @@ in-time h count to (order.Take e) is reached = (let newer = is.0 in let not_late
 in-time h count to (order.Reset e) is reached = grind (arith, nat_tests)
 
 -- a step that fits may be played at a count that has reached it
-pub step-fits : (h : Hands) (count before : ℕ) (s : PlanStep) → StepFits before h.est.update_ffcount s → s.to ≤ count → h.count ≤ count → count < 4611686018427387904 → fits h count s.order ≡ true
+pub step-fits : (h : Hands) (count before : ℕ) (s : PlanStep) → StepFits before h.est.update_ffcount s → s.to ≤ count → h.count ≤ count → count < 2 ^ 62 → fits h count s.order ≡ true
 step-fits h count before s step reached later most =
     and_both _ _ (and_both _ _ (and_both _ _ step.sane (grind (arith, nat_tests))) (grind (arith, nat_tests))) (in-time h count s.to s.order step.in_time reached)
 

@@ -1,12 +1,11 @@
 -- The counts of the steps of a plan, and the estimates that it takes.
-use Rattle.std.proofs.Common.{◌≡◌, ◌⊎◌, ℕ, zero, suc, ◌+◌, ◌-◌, ◌<◌, ◌≤◌, max, List, [], ◌∷◌, ◌++◌, length, map, get_or, slice_get, Some, inl, inr, refl, sym, ap, ◌∙◌, arith}
+use Rattle.std.proofs.Common.{◌≡◌, ℕ, zero, suc, ◌+◌, ◌-◌, ◌<◌, ◌≤◌, List, [], ◌∷◌, ◌++◌, length, map, get_or, slice_get, Some, refl, sym, ap, ◌∙◌, arith}
 use Rattle.std.specs.List.{range_with_len}
 use Rattle.std.specs.List.Sorted.{IsNonDecreasingBy}
 use Rattle.std.proofs.lemmas.List.{map-append}
-use Rattle.std.proofs.lemmas.Option.{slice_get_within, slice_get-get_or, get_or_from_slice_get}
+use Rattle.std.proofs.lemmas.Option.{slice_get_within, get_or_from_slice_get}
 use Rattle.ff_hands.specs.declared.estimates.Estimate.{Estimate}
 use Rattle.ff_hands.specs.declared.hands.Order.{Order}
-use Rattle.ff_hands.specs.declared.hands.Order.TheVariants as order
 use Rattle.replay_run.specs.Fitting.{PlanFits, update_after}
 use Rattle.replay_run.specs.Journals.{greatest, taken_in}
 use Rattle.replay_run.specs.Plans.{plain_step, steps_between, steps_from, plan_of}

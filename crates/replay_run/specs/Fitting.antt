@@ -1,5 +1,5 @@
 -- Plans that a clock can be wound by, step after step.
-use Rattle.std.specs.Prelude.{◌≡◌, ℕ, ◌<◌, ◌≤◌, true, List, [], ◌∷◌}
+use Rattle.std.specs.Prelude.{◌≡◌, ℕ, ◌^◌, ◌<◌, ◌≤◌, true, List, [], ◌∷◌}
 use Rattle.ff_hands.specs.Orders.{is_sane}
 use Rattle.ff_hands.specs.declared.hands.Order.{Order}
 use Rattle.ff_hands.specs.declared.hands.Order.TheVariants as order
@@ -22,7 +22,7 @@ IsInTime update to (order.Reset e) = e.update_ffcount ≤ to
 -- `update`
 pub record StepFits (before update : ℕ) (s : PlanStep) : Type 0 where
   pub later : before ≤ s.to
-  pub most : s.to < 4611686018427387904
+  pub most : s.to < 2 ^ 62
   pub sane : is_sane s.order ≡ true
   pub in_time : IsInTime update s.to s.order
 

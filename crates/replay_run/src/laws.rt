@@ -18,51 +18,68 @@ ghost use Rattle.replay_run.specs.declared.plan.PlanStep.{PlanStep};
 /// The law that a plan has one step for the reset, one for each estimate, and `ticks` between two of
 /// them.
 pub fn steps_are_counted()
-    ensures { (freq : ℕ) (es : List Estimate) (ticks : ℕ) → length (plan_of freq es ticks) ≡ 1 + length es + ticks * (length es - 1) }
+    ensures { (freq : ℕ) (es : List Estimate) (ticks : ℕ) →
+        length (plan_of freq es ticks) ≡ 1 + length es + ticks * (length es - 1) }
 {}
 
 /// The law that a plan takes each estimate once, in their order.
 pub fn plans_take_each_estimate()
-    ensures { (freq : ℕ) (es : List Estimate) (ticks : ℕ) → taken_in (map (λ s. s.order) (plan_of freq es ticks)) ≡ es }
+    ensures { (freq : ℕ) (es : List Estimate) (ticks : ℕ) →
+        taken_in (map (λ s. s.order) (plan_of freq es ticks)) ≡ es }
 {}
 
 /// The law that the plan of what a daemon says of accepted stamps fits a clock that was never set, each
 /// step as those before it leave the clock.
 pub fn plans_fit()
-    ensures { (freq : ℕ) (all : List Stamp) (ticks : ℕ) → 1000000 ≤ freq → AreAccepted freq all → PlanFits 0 0 (plan_of freq (estimates_of (fold_of freq all)) ticks) }
+    ensures { (freq : ℕ) (all : List Stamp) (ticks : ℕ) → 1000000 ≤ freq → AreAccepted freq all →
+        PlanFits 0 0 (plan_of freq (estimates_of (fold_of freq all)) ticks) }
 {}
 
 /// The law that the order of a step that fits is not refused once the counter has reached the step's
 /// count, also where the counter is past it, and that the clock is then as the next step takes it to be.
 pub fn steps_wind()
-    ensures fits { (h : Hands) (count before : ℕ) (s : PlanStep) → StepFits before h.est.update_ffcount s → s.to ≤ count → h.count ≤ count → count < 2 ^ 62 → fits h count s.order ≡ true }
-    ensures next { (h : Hands) (count : ℕ) (s : PlanStep) → (wind_of h count s.order).est.update_ffcount ≡ update_after h.est.update_ffcount s.order }
+    ensures fits { (h : Hands) (count before : ℕ) (s : PlanStep) →
+        StepFits before h.est.update_ffcount s → s.to ≤ count → h.count ≤ count → count < 2 ^ 62 →
+        fits h count s.order ≡ true }
+    ensures next { (h : Hands) (count : ℕ) (s : PlanStep) →
+        (wind_of h count s.order).est.update_ffcount ≡ update_after h.est.update_ffcount s.order }
 {}
 
 /// The law that the counts of steps that fit never fall, so that the last one is the greatest.
 pub fn targets_never_fall()
-    ensures rise { (before update : ℕ) (steps : List PlanStep) → PlanFits before update steps → IsNonDecreasingBy (λ s. s.to) steps }
-    ensures most { (steps : List PlanStep) (k : ℕ) (s : PlanStep) → slice_get steps k ≡ Some s → s.to ≤ greatest steps }
-    ensures last { (before update : ℕ) (steps : List PlanStep) (s : PlanStep) → PlanFits before update steps → slice_get steps (length steps - 1) ≡ Some s → greatest steps ≡ s.to }
+    ensures rise { (before update : ℕ) (steps : List PlanStep) → PlanFits before update steps →
+        IsNonDecreasingBy (λ s. s.to) steps }
+    ensures most { (steps : List PlanStep) (k : ℕ) (s : PlanStep) → slice_get steps k ≡ Some s →
+        s.to ≤ greatest steps }
+    ensures last { (before update : ℕ) (steps : List PlanStep) (s : PlanStep) →
+        PlanFits before update steps → slice_get steps (length steps - 1) ≡ Some s →
+        greatest steps ≡ s.to }
 {}
 
 /// The law that steps that fit make a legal journal, whose counts and orders behind the cold hands are
 /// those of the steps.
 pub fn journals_are_legal()
     ensures legal { (steps : List PlanStep) → PlanFits 0 0 steps → IsJournal (journal_of steps) }
-    ensures counts { (steps : List PlanStep) → map (λ h. h.count) (journal_of steps) ≡ 0 ∷ map (λ s. s.to) steps }
-    ensures orders { (steps : List PlanStep) → map order_of (journal_of steps) ≡ order.Plain ∷ map (λ s. s.order) steps }
-    ensures made { (steps : List PlanStep) → PlanFits 0 0 steps → IsJournalOf false steps (journal_of steps) }
+    ensures counts { (steps : List PlanStep) →
+        map (λ h. h.count) (journal_of steps) ≡ 0 ∷ map (λ s. s.to) steps }
+    ensures orders { (steps : List PlanStep) →
+        map order_of (journal_of steps) ≡ order.Plain ∷ map (λ s. s.order) steps }
+    ensures made { (steps : List PlanStep) → PlanFits 0 0 steps →
+        IsJournalOf false steps (journal_of steps) }
 {}
 
 /// The law that no other legal journal has the counts and the orders of the steps.
 pub fn journals_are_the_only_ones()
-    ensures told { (steps : List PlanStep) (ticks : List Hands) → IsJournal ticks → map (λ h. h.count) ticks ≡ 0 ∷ map (λ s. s.to) steps → map order_of ticks ≡ order.Plain ∷ map (λ s. s.order) steps → ticks ≡ journal_of steps }
-    ensures exact { (steps : List PlanStep) (ticks : List Hands) → IsJournalOf false steps ticks → ticks ≡ journal_of steps }
+    ensures told { (steps : List PlanStep) (ticks : List Hands) → IsJournal ticks →
+        map (λ h. h.count) ticks ≡ 0 ∷ map (λ s. s.to) steps →
+        map order_of ticks ≡ order.Plain ∷ map (λ s. s.order) steps → ticks ≡ journal_of steps }
+    ensures exact { (steps : List PlanStep) (ticks : List Hands) → IsJournalOf false steps ticks →
+        ticks ≡ journal_of steps }
 {}
 
 /// The law that a journal made by a plan takes the plan's estimates, each once and in their order, also
 /// where the counter was raised beside the driver.
 pub fn journals_take_each_estimate()
-    ensures { (beside : Bool) (freq : ℕ) (es : List Estimate) (ticks : ℕ) (journal : List Hands) → IsJournalOf beside (plan_of freq es ticks) journal → taken_in (map order_of journal) ≡ es }
+    ensures { (beside : Bool) (freq : ℕ) (es : List Estimate) (ticks : ℕ) (journal : List Hands) →
+        IsJournalOf beside (plan_of freq es ticks) journal → taken_in (map order_of journal) ≡ es }
 {}

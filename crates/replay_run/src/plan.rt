@@ -91,8 +91,11 @@ impl Plan {
         requires low { 1000000 ≤ freq }
         requires high { freq ≤ 16000000000 }
         requires of { (all : List Stamp) × AreOf fulls.now freq all }
-        requires options { AreOptionsInRange options.now }
-        ensures plan { IfOk result (λ p. (p.freq ≡ freq) × (p.options ≡ options.now) × (p.steps.items ≡ plan_of freq (estimates_of fulls.now) options.now.ticks)) }
+        requires ranged { AreOptionsInRange options.now }
+        ensures freq { IfOk result (λ p. p.freq ≡ freq) }
+        ensures options { IfOk result (λ p. p.options ≡ options.now) }
+        ensures steps { IfOk result (λ p.
+            p.steps.items ≡ plan_of freq (estimates_of fulls.now) options.now.ticks) }
         ensures fits { IfOk result (λ p. PlanFits 0 0 p.steps.items) }
     {
         let ticks = options.ticks;
