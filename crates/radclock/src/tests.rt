@@ -34,9 +34,14 @@ const OUTSIDE: Outside = Outside {
 fn words_of(alloc: Global, line: &'static str) -> Result<Vec<&'static str>, Fail> {
     let mut words = Vec::new(alloc);
     let mut rest = line;
-    while let Some((word, more)) = rest.split_once(' ') {
-        words.push(word)?;
-        rest = more;
+    for _ in 0..line.len() {
+        match rest.split_once(' ') {
+            Some((word, more)) => {
+                words.push(word)?;
+                rest = more;
+            }
+            None => break,
+        }
     }
     if !line.is_empty() {
         words.push(rest)?;
@@ -166,16 +171,16 @@ fn lines_and_bytes_have_limits(rt: HostRuntime) -> Result<(), Fail> {
 fn many_stamps_are_told(rt: HostRuntime) -> Result<(), Fail> {
     for (words, parts, rest, code, end) in &NUMBERED {
         let mut input = format!(in rt.alloc(); "{HEAD}")?;
-        let mut i = 0;
+        let mut from = 0;
         for (to, trip, more) in parts {
-            while i < *to {
+            for i in from..*to {
                 let ta = u64::from(i) * 1_000_000_000;
                 let longer = u64::from(*more) * u64::from(i);
                 let tf = (ta + u64::from(*trip)).saturating_add(longer);
                 let line = format!(in rt.alloc(); "{ta} {i} {i} {tf}\n")?;
                 input.push_str(&line)?;
-                i += 1;
             }
+            from = *to;
         }
         input.push_str(rest)?;
         ends_large(&rt, rt.alloc(), words, &input, *code, end)?;
