@@ -94,7 +94,6 @@ impl PenSeat {
     pub fn start_mark(&mut self, tick: u64)
         requires winding { (self.old.view.winding ≡ true) × (self.old.view.marked ≡ false) }
         requires next { tick ≡ length self.old.view.journal }
-        requires room { tick < 2 ^ 62 }
         ensures table { self.new.table ≡ self.old.table }
         ensures view { self.new.view ≡ mark_started self.old.view }
     {
@@ -125,7 +124,6 @@ impl PenSeat {
         requires winding { (self.old.view.winding ≡ true) × (self.old.view.marked ≡ true) }
         requires whole { length self.old.view.stored ≡ 15 }
         requires next { tick ≡ length self.old.view.journal }
-        requires room { tick < 2 ^ 62 }
         ensures table { self.new.table ≡ self.old.table }
         ensures view { self.new.view ≡ mark_set self.old.view }
     {
@@ -139,7 +137,6 @@ impl PenSeat {
     /// ones makes at the counter that was loaded, and the stored words are theirs.
     pub fn close_turn(&mut self, h: &Hands)
         requires winding { (self.old.view.winding ≡ true) × (self.old.view.set ≡ true) }
-        requires room { length self.old.view.journal < 2 ^ 62 }
         requires stored { self.old.view.stored ≡ pack h.now }
         requires loaded { self.old.view.loaded ≡ Some h.now.count }
         requires follows { Follows (newest self.old.view.journal) h.now }

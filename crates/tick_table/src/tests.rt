@@ -1,12 +1,65 @@
-// A fast read beside an open windup, and every call that takes memory with ample memory.
-ghost use Rattle.std.specs.Prelude.{◌≡◌, true};
-ghost use Rattle.tick_views.specs.Views.{scan_of};
+// Windups step by step and reads beside them, and every call that takes memory with ample memory.
+ghost use Rattle.std.specs.Prelude.{◌≡◌, ◌+◌, ◌/◌, ◌%◌, ◌<◌, ◌^◌, ◌∷◌, [], length, true, false, IfOk};
+ghost use Rattle.clock_lines.specs.Readings.{newest};
+ghost use Rattle.clock_lines.specs.declared.readings.Entry.TheVariants.{Again};
+ghost use Rattle.clock_lines.specs.declared.readings.Kind.TheVariants.{Abs};
+ghost use Rattle.ff_hands.specs.Journals.{IsSound};
+ghost use Rattle.tick_views.specs.Views.{noted, scan_of};
 
-use crate::{FIELDS, PassSeat, PenSeat, unpack};
+use crate::{FIELDS, PassSeat, PenSeat, pack, unpack};
 use clock_lines::Kind;
-use ff_hands::cold;
+use ff_grain::Bintime;
+use ff_hands::{
+    Estimate, Hands, Marks, Order, cold, fits, reset_estimate, wind, windups_are_told,
+    windups_follow,
+};
+use hand_words::sound_hands_pack;
 use std::test::Fail;
 use tick_reads::Ask;
+
+fn store_fields(pen: &mut PenSeat, tick: u64, words: &[u64; 15])
+    requires winding { pen.old.view.winding ≡ true }
+    requires marked { pen.old.view.marked ≡ true }
+    requires unset { pen.old.view.set ≡ false }
+    requires none { pen.old.view.stored ≡ [] }
+    requires tick { tick ≡ length pen.old.view.journal }
+    ensures table { pen.new.table ≡ pen.old.table }
+    ensures view { pen.new.view ≡ record pen.old.view { stored = words.now } }
+{
+    for f in 0..FIELDS {
+        pen.store_field(tick, f as u32, words[f]);
+    }
+}
+
+// A whole windup to tick `tick`, the next one, by an order that has to fit at the counter.
+fn wind_up(pen: &mut PenSeat, tick: u64, last: &Hands, order: &Order) -> Result<Hands, Fail>
+    requires closed { pen.old.view.winding ≡ false }
+    requires tick { tick ≡ length pen.old.view.journal }
+    requires room { tick < 2 ^ 62 }
+    requires last { newest pen.old.view.journal ≡ last.now }
+    requires sound { IsSound last.now }
+    ensures table { pen.new.table ≡ pen.old.table }
+    ensures closed { IfOk result (λ h. pen.new.view.winding ≡ false) }
+    ensures tick { IfOk result (λ h. length pen.new.view.journal ≡ tick + 1) }
+    ensures last { IfOk result (λ h. newest pen.new.view.journal ≡ h) }
+    ensures sound { IfOk result IsSound }
+{
+    pen.start_turn();
+    let count = pen.load_counter();
+    if !fits(last, count, order) {
+        return Err(Fail::new("the order does not fit"));
+    }
+    let hands = wind(last, count, order);
+    sound_hands_pack();
+    let words = pack(&hands);
+    pen.start_mark(tick);
+    store_fields(pen, tick, &words);
+    pen.set_mark(tick);
+    windups_follow();
+    windups_are_told();
+    pen.close_turn(&hands);
+    Ok(hands)
+}
 
 fn load_fields(pass: &mut PassSeat, tick: u64) -> [u64; 15]
     requires calling { pass.old.view.calling ≡ true }
@@ -22,10 +75,26 @@ fn load_fields(pass: &mut PassSeat, tick: u64) -> [u64; 15]
     fields
 }
 
-fn ask(kind: Kind) -> Ask
-    ensures { result.kind ≡ kind }
+fn open_fast(pass: &mut PassSeat) -> u64
+    ensures table { pass.new.table ≡ pass.old.table }
+    ensures calling { pass.new.view.calling ≡ true }
+    ensures tick { (scan_of pass.new.view).tick ≡ result / 2 }
 {
-    Ask { kind, given: 0 }
+    pass.open_call(Ask {
+        kind: Kind::Fast,
+        given: 0,
+    })
+}
+
+// A full read that meets an odd turn word is over at once, and shows that word twice.
+fn open_full(pass: &mut PassSeat) -> u64
+    requires { pass.old.view.entries ≡ [] }
+    ensures { result % 2 ≡ 1 → pass.new.view.entries ≡ noted (Again Abs result result) result ∷ [] }
+{
+    pass.open_call(Ask {
+        kind: Kind::Abs,
+        given: 0,
+    })
 }
 
 #[test]
@@ -38,9 +107,7 @@ fn a_fast_read_needs_no_closed_turn(rt: HostRuntime) -> Result<(), Fail> {
     assert_eq!(rt; crank.raise_counter(5), 7);
     pen.start_turn();
     assert_eq!(rt; pen.load_counter(), 7);
-    // A full read is over at once, and a fast one reads on.
-    assert_eq!(rt; pass.open_call(ask(Kind::Abs)), 1);
-    let turn = pass.open_call(ask(Kind::Fast));
+    let turn = open_fast(&mut pass);
     assert_eq!(rt; turn, 1);
     let fields = load_fields(&mut pass, turn / 2);
     assert_eq!(rt; unpack(&fields), cold());
@@ -50,5 +117,63 @@ fn a_fast_read_needs_no_closed_turn(rt: HostRuntime) -> Result<(), Fail> {
     pen.join_crank(crank);
     pen.join_pass(pass);
     assert_eq!(rt; pen.load_turn(), 1);
+    Ok(())
+}
+
+#[test]
+fn reads_beside_the_windup_to_tick_4(rt: HostRuntime) -> Result<(), Fail> {
+    let mut pen = PenSeat::new(rt.alloc())?;
+    let share = pen.share()?;
+    let mut pass = pen.split_pass(share);
+    let start = Bintime { sec: 0, frac: 0 };
+    let none = Marks {
+        unsync: false,
+        warmup: false,
+    };
+    assert_eq!(rt; pen.raise_counter(5), 5);
+    let reset = Order::Reset(reset_estimate(start, 0, 1_000_000_000));
+    let first = wind_up(&mut pen, 1, &cold(), &reset)?;
+    assert_eq!(rt; pen.raise_counter(9), 9);
+    let take = Order::Take(Estimate {
+        update_time: Bintime { sec: 100, frac: 0 },
+        update_ffcount: 9,
+        leapsec_next: 0,
+        period: 18_446_744_073,
+        errb_abs: 0,
+        errb_rate: 0,
+        status: none,
+        leapsec_total: 0,
+        leapsec: 0,
+    });
+    let second = wind_up(&mut pen, 2, &first, &take)?;
+    assert_eq!(rt; pen.raise_counter(20), 20);
+    assert_eq!(rt; pen.raise_counter(7), 20);
+    let third = wind_up(&mut pen, 3, &second, &Order::Plain)?;
+    pen.start_turn();
+    assert_eq!(rt; pen.load_turn(), 7);
+    assert_eq!(rt; open_full(&mut pass), 7);
+    let turn = open_fast(&mut pass);
+    assert_eq!(rt; turn, 7);
+    let fields = load_fields(&mut pass, turn / 2);
+    let words = [
+        20,
+        100,
+        202_914_184_803,
+        0,
+        368_934_881_451,
+        18_446_744_073,
+        0,
+        0,
+        100,
+        0,
+        9,
+        0,
+        18_446_744_073,
+        0,
+        272,
+    ];
+    assert_eq!(rt; fields, words);
+    assert_eq!(rt; unpack(&fields), third);
+    assert_eq!(rt; pass.load_mark(turn / 2), 8);
     Ok(())
 }

@@ -1,4 +1,4 @@
-use Rattle.std.proofs.Common.{rules, ap, sym, ◌∙◌, ◌≡◌, arith, length, refl, subst, ◌<◌, ◌^◌}
+use Rattle.std.proofs.Common.{rules, ap, sym, ◌∙◌, ◌≡◌, arith, refl, subst, ◌<◌, ◌^◌}
 use Rattle.std.proofs.Common.{[], ◌∷◌, ◌++◌}
 use Rattle.tick_table.proofs.Closing.{closed_journal}
 use Rattle.tick_table.proofs.PenKeeps.{closes_at, follows_newest}
@@ -6,7 +6,8 @@ use Rattle.tick_table.proofs.pen.PenSeat.close_turn.Goals as goal
 
 pub store-requires : goal.store-requires
 store-requires c = let i = c.self.invariant in let w : c.deref.result.now.shared.table_id.words ≡ 162 = search rules in let n = c.requires in
-    (search rules, omega arith, closes_at _ _ _ _ c.self.inside.last _ c.args.h.now i.2 i.3 (ap (λ v. v.view.winding) c.self.view_is ∙ n.winding.0) (ap (λ v. v.view.set) c.self.view_is ∙ n.winding.1) i.4 (subst (λ v. length v.view.journal < 2 ^ 62) (sym c.self.view_is) n.room) (ap (λ v. v.view.stored) c.self.view_is ∙ n.stored) c.fits_words.ensures (ap (λ v. v.view.loaded) c.self.view_is ∙ n.loaded) (follows_newest _ _ _ _ (ap (λ v. v.view) c.self.view_is) i.4 n.follows) refl)
+    let open-now = ap (λ v. v.view.winding) c.self.view_is ∙ n.winding.0 in
+    (search rules, omega arith, closes_at _ _ _ _ c.self.inside.last _ c.args.h.now i.2 i.3 open-now (ap (λ v. v.view.set) c.self.view_is ∙ n.winding.1) i.4 (subst (λ k. k < 2 ^ 62) (sym i.4) (i.7 open-now)) (ap (λ v. v.view.stored) c.self.view_is ∙ n.stored) c.fits_words.ensures (ap (λ v. v.view.loaded) c.self.view_is ∙ n.loaded) (follows_newest _ _ _ _ (ap (λ v. v.view) c.self.view_is) i.4 n.follows) refl)
 
 pub returns-clause-journal : goal.returns-clause-journal
 returns-clause-journal c = let i = c.self.invariant in let n = c.requires in
