@@ -1,5 +1,5 @@
 -- Output in blocks.
-use Rattle.std.proofs.Common.{◌≡◌, ◌⊎◌, ℕ, ◌-◌, ◌<◌, List, [], ◌∷◌, ◌++◌, Option, None, Result, Ok, Err, OnOk, OnErr, IsErr, length, take, drop, refl, sym, ap, ◌∙◌, subst, arith, append-nil, append_assoc, inl, inr, true≢false}
+use Rattle.std.proofs.Common.{◌≡◌, ◌⊎◌, ℕ, ◌-◌, List, [], ◌∷◌, ◌++◌, Option, None, Result, Ok, Err, OnOk, OnErr, IsErr, length, take, drop, refl, sym, ap, ◌∙◌, subst, arith, append-nil, append_assoc, inl, inr, true≢false}
 use Rattle.std.proofs.lemmas.List.{take-append-drop}
 use Rattle.std.proofs.lemmas.List.Elements.{All-nil, All-push, All-append}
 use Rattle.std.proofs.lemmas.List.Folds.{concat-append}
@@ -53,15 +53,15 @@ module _ {K : Type 0} (written : K → Option (List ℕ)) (faults : K → ℕ) (
   }
 
   -- its push fails
-  pub stops-block : (old new : Gathering K) (front : List ℕ) → old.faults ≡ 0 → 0 < new.faults
+  pub stops-block : (old new : Gathering K) (front : List ℕ) → old.faults ≡ 0 → new.faults ≡ 1
       → PushAppends {T = Unit {0}} {E = Failed} (written old.sink) (written new.sink) (Err (record {})) (old.block ++ front) → HasCause {T = Unit {0}} {E = Failed} (faults old.sink) (faults new.sink) (Err (record {}))
       → push old.sink (old.block ++ front) (Err (record {})) new.sink → StopsAt written faults push old front new
-  stops-block old new front sound later appends cause gives = record {
+  stops-block old new front sound counted appends cause gives = record {
     blocks = (old.block ++ front) ∷ [];
     broke = broke written faults push old.sink old.sink new.sink [] (old.block ++ front) [] appends cause (wrote_nothing written faults push old.sink) gives;
     bytes = sym (append-nil (old.block ++ front));
     sound = sound;
-    later = later;
+    first = counted;
   }
 
   -- whatever the push answers
@@ -73,13 +73,13 @@ module _ {K : Type 0} (written : K → Option (List ℕ)) (faults : K → ℕ) (
       hands-block old new front sound same none at.0 at.1 cause at.2
   block-ok old new front block (Err e) sound same none is sized appends cause gives = tt
 
-  pub block-err : (old new : Gathering K) (front block : List ℕ) (r : Result (Unit {0}) Failed) → old.faults ≡ 0 → 0 < new.faults → block ≡ old.block ++ front
+  pub block-err : (old new : Gathering K) (front block : List ℕ) (r : Result (Unit {0}) Failed) → old.faults ≡ 0 → new.faults ≡ 1 → block ≡ old.block ++ front
       → PushAppends (written old.sink) (written new.sink) r block → HasCause (faults old.sink) (faults new.sink) r → push old.sink block r new.sink → OnErr r (StopsAt written faults push old front new)
-  block-err old new front block (Ok o) sound later is appends cause gives = tt
-  block-err old new front block (Err e) sound later is appends cause gives =
+  block-err old new front block (Ok o) sound counted is appends cause gives = tt
+  block-err old new front block (Err e) sound counted is appends cause gives =
       let P : List ℕ → Type 0 = λ bs. PushAppends {T = Unit {0}} {E = Failed} (written old.sink) (written new.sink) (Err (record {})) bs × push old.sink bs (Err (record {})) new.sink in
       let at = subst P is (appends, gives) in
-      stops-block old new front sound later at.0 cause at.1
+      stops-block old new front sound counted at.0 cause at.1
 
   -- the same of a value that is what is seen of a sink
   pub hands-from : (seen old new : Gathering K) (front : List ℕ) → seen ≡ old → HandsOn written faults push seen front new → HandsOn written faults push old front new
@@ -109,7 +109,7 @@ module _ {K : Type 0} (written : K → Option (List ℕ)) (faults : K → ℕ) (
     broke = broke-on written faults push old.sink mid.sink new.sink first.blocks then.blocks first.wrote then.broke;
     bytes = between old.block a (concat first.blocks) mid.block b (concat then.blocks) [] first.bytes (then.bytes ∙ sym (append-nil (concat then.blocks))) ∙ append-nil (concat first.blocks ++ concat then.blocks) ∙ sym (concat-append first.blocks then.blocks);
     sound = first.sound;
-    later = then.later;
+    first = then.first;
   }
 
   -- a piece stops, and more was to follow
@@ -119,7 +119,7 @@ module _ {K : Type 0} (written : K → Option (List ℕ)) (faults : K → ℕ) (
     broke = broke-early written faults push old.sink new.sink first.blocks (b ∷ []) first.broke;
     bytes = sym (append_assoc old.block a b) ∙ ap (λ (bs : List ℕ). bs ++ b) first.bytes ∙ sym (concat-push first.blocks b);
     sound = first.sound;
-    later = first.later;
+    first = first.first;
   }
 
   -- while a piece is taken
@@ -171,14 +171,15 @@ module _ {K : Type 0} (written : K → Option (List ℕ)) (faults : K → ℕ) (
       record {
         blocks = all.blocks;
         bytes = sym all.bytes ∙ ap (λ (bs : List ℕ). old.block ++ bs) whole ∙ ap (λ (bs : List ℕ). bs ++ concat lines) fresh.block;
-        writes = subst (λ k. Broke written faults push sink all.blocks k) (sym (closes.failed all.later).1) (subst (λ k. Broke written faults push k all.blocks mid.sink) fresh.behind all.broke);
+        writes = subst (λ k. Broke written faults push sink all.blocks k) (sym (closes.failed (omega (arith, all.first))).1) (subst (λ k. Broke written faults push k all.blocks mid.sink) fresh.behind all.broke);
       }
 
   -- a push that stops
   pub gives-stop : (old new : Gathering K) (piece : List ℕ) (r : Result (Unit {0}) Failed) → IsErr r → StopsAt written faults push old piece new → BlockGives written faults push old piece r new
   gives-stop old new piece (Ok o) is stops = absurd (true≢false (sym is))
   gives-stop old new piece (Err e) is stops = record {
-    cause = record { later = omega (arith, stops.sound); failed = omega (arith, stops.sound, stops.later); kept = tt };
+    cause = record { later = omega (arith, stops.sound); failed = omega (arith, stops.sound, stops.first); kept = tt };
+    rose = omega (arith, stops.sound, stops.first);
     untold = untold (Err e) piece;
     hands = inr stops;
   }

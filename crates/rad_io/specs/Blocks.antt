@@ -1,8 +1,8 @@
 -- What a sink does that gathers what is pushed into blocks.
-use Rattle.std.specs.Prelude.{◌≡◌, ℕ, ◌<◌, ◌⊎◌, List, [], ◌++◌, length, Option, None, Result, MatchResult, IsErr}
+use Rattle.std.specs.Prelude.{◌≡◌, ℕ, ◌<◌, ◌⊎◌, List, [], ◌++◌, length, Option, None, Result, MatchResult, OnErr, IsErr}
 use Rattle.std.specs.List.{concat, All}
 use Rattle.rad_io.specs.Bytes.{PushAppends}
-use Rattle.rad_io.specs.Causes.{HasCause}
+use Rattle.rad_io.specs.Causes.{counted_on, HasCause}
 use Rattle.rad_io.specs.Pushes.{Wrote, Broke, Writes}
 use Rattle.rad_io.specs.declared.Failed.{Failed}
 
@@ -41,17 +41,17 @@ pub record StopsAt {K : Type 0} (written : K → Option (List ℕ)) (faults : K 
   pub broke : Broke written faults push old.sink blocks new.sink
   pub bytes : old.block ++ piece ≡ concat blocks
   pub sound : old.faults ≡ 0
-  pub later : 0 < new.faults
+  pub first : new.faults ≡ 1
 
 -- nothing is handed on behind a push that failed
 pub record Refuses {K : Type 0} (old new : Gathering K) : Type 0 where
   pub failed : 0 < old.faults
   pub same : new.sink ≡ old.sink
-  pub later : 0 < new.faults
 
--- a push
+-- a push: where it fails, the count of faults rises by one
 pub record BlockGives {K : Type 0} (written : K → Option (List ℕ)) (faults : K → ℕ) (push : K → List ℕ → Result (Unit {0}) Failed → K → Type 0) (old : Gathering K) (piece : List ℕ) (result : Result (Unit {0}) Failed) (new : Gathering K) : Type 0 where
   pub cause : HasCause old.faults new.faults result
+  pub rose : OnErr result (new.faults ≡ counted_on old.faults)
   pub untold : PushAppends None None result piece
   pub hands : MatchResult result (λ _. HandsOn written faults push old piece new) (λ _. Refuses old new ⊎ StopsAt written faults push old piece new)
 

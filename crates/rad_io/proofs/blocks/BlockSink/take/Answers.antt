@@ -1,4 +1,4 @@
-use Rattle.std.proofs.Common.{◌≡◌, ◌+◌, ◌<◌, ◌≤◌, ◌++◌, length, refl, sym, ap, ◌∙◌, subst, arith, rules, length-append}
+use Rattle.std.proofs.Common.{◌≡◌, ◌+◌, ◌≤◌, ◌++◌, length, refl, sym, ap, ◌∙◌, subst, arith, rules, length-append}
 use Rattle.rad_io.proofs.InBlocks.{hands-held, hands-from, block-ok, block-err, ok-from, err-from}
 use Rattle.rad_io.proofs.blocks.BlockSink.take.Goals as goal
 
@@ -14,9 +14,8 @@ returns-then-is_err-clause-err g c =
     let sound : c.self.inside.faults ≡ 0 = ap (λ v. v.faults) c.self.view_is ∙ c.requires.sound in
     let held : c.extend_from_slice.new.self.items ≡ c.self.inside.block.items ++ c.args.front.now = search rules in
     let once = c.push-pushed.ensures.once in
-    let some : 0 < 1 = omega arith in
     err-from _ _ _ _ _ _ c.args.front.now c.push-pushed.result c.self.view_is
-    (block-err _ _ _ _ _ c.args.front.now _ c.push-pushed.result sound some (c.deref.ensures.value ∙ held) (sink.appends _ _ _ _ once) (sink.cause _ _ _ _ once) once)
+    (block-err _ _ _ _ _ c.args.front.now _ c.push-pushed.result sound refl (c.deref.ensures.value ∙ held) (sink.appends _ _ _ _ once) (sink.cause _ _ _ _ once) once)
 
 pub returns-else-is_err-clause-ok : goal.returns-else-is_err-clause-ok
 returns-else-is_err-clause-ok g c =
