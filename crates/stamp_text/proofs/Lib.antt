@@ -1,10 +1,13 @@
 pub mod DigitLaws
+pub mod EightLaws
 pub mod PlaceLaws
 pub mod StampLaws
+pub mod PieceLaws
 pub mod CutLaws
 pub mod GrammarLaws
 pub mod FeedLaws
 pub mod EndLaws
 pub mod RangeLaws
 pub mod GivenLaws
+pub mod TurnLaws
 pub mod AcceptedLaws

@@ -1,10 +1,12 @@
 -- The first byte of a kind in a text, and what it cuts the text into.
-use Rattle.std.proofs.Common.{◌≡◌, ℕ, ◌+◌, ◌^◌, ◌-◌, ◌<◌, ◌≤◌, ◌||◌, ◌==◌, Bor, MatchOption, IfNone, IfSome, OnSome, not, min, Bool, true, false, cond, ltb, List, [], ◌∷◌, Option, None, Some, length, refl, sym, ap, ◌∙◌, arith}
+use Rattle.std.proofs.Common.{get_or, ◌≡◌, ℕ, ◌+◌, ◌^◌, ◌-◌, ◌<◌, ◌≤◌, ◌||◌, ◌==◌, Bor, MatchOption, IfNone, IfSome, OnSome, not, min, Bool, true, false, cond, ltb, List, [], ◌∷◌, Option, None, Some, length, refl, sym, ap, ◌∙◌, arith}
 use Rattle.std.specs.List.{list_any, position, position_or_len, before_first, after_first, slice_split}
 use Rattle.std.specs.Option.{option_map}
+use Rattle.std.proofs.lemmas.Bool.{false_from_ne_true}
 use Rattle.std.proofs.lemmas.Bool.Decides.{nat_tests}
 use Rattle.std.proofs.lemmas.List.Splits.{slice_split_none, slice_split_first}
-use Rattle.std.proofs.lemmas.List.Sums.{prefix_len-le-length, fails_before_first}
+use Rattle.std.proofs.lemmas.List.Sums.{prefix_len-le-length, fails_before_first, position_or_len_is}
+use Rattle.memchr.specs.Find.{IsFirstByte}
 use Rattle.stamp_text.specs.Digits.{number_in}
 use Rattle.stamp_text.specs.Stamps.{pieces_of}
 use Rattle.stamp_text.specs.Times.{is_point, nanos_in, written_of, time_in, capped}
@@ -55,3 +57,16 @@ written_capped (Some sec) (Some nanos) = refl
 -- the time of a text by its seconds, capped, and its nanoseconds
 pub time_told : (text whole : List ℕ) (sec nanos told : Option ℕ) → time_in text ≡ written_of (number_in whole) nanos → sec ≡ option_map (λ n. min n (2 ^ 64 - 1)) (number_in whole) → told ≡ nanos → written_of sec told ≡ option_map capped (time_in text)
 time_told text whole sec nanos told time e f = ap (λ s. written_of s told) e ∙ ap (written_of (option_map (λ n. min n (2 ^ 64 - 1)) (number_in whole))) f ∙ written_capped (number_in whole) nanos ∙ ap (option_map capped) (sym time)
+
+-- the first place that passes a test, as a search answers it
+pub first_place : (p : ℕ → Bool) (xs : List ℕ) (r : Option ℕ) → IsFirstByte p xs r → r ≡ position p xs
+first_place p xs None h =
+    let none : position_or_len p xs ≡ length xs = position_or_len_is p xs (length xs) 0 (omega arith) (λ k below. false_from_ne_true (p (get_or xs k 0)) (h k (omega arith) below)) (λ no. absurd (omega arith)) in
+    let past : ltb (position_or_len p xs) (length xs) ≡ false = grind (arith, nat_tests) in
+    sym (ap (λ t. cond t (Some (position_or_len p xs)) None) past)
+first_place p xs (Some k) h =
+    let first = h.0 in
+    let here : position_or_len p xs ≡ k = position_or_len_is p xs k 0 (omega (arith, first.high)) (λ j below. false_from_ne_true (p (get_or xs j 0)) (first.before j (omega arith) below)) (λ within. h.1) in
+    let high = first.high in
+    let within : ltb (position_or_len p xs) (length xs) ≡ true = grind (arith, nat_tests) in
+    sym (ap (λ t. cond t (Some (position_or_len p xs)) None) within ∙ ap (λ n. Some n) here)

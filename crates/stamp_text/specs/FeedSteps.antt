@@ -1,5 +1,5 @@
--- What a reader does with a byte and with the end, by what it keeps alone. No public clause cites this:
--- it is a step of the proof that a reader answers what the grammar says of the text.
+-- What a reader does with a byte and with the end, by what it keeps alone. It is a step of the proof that a
+-- reader answers what the grammar says of the text, and what bytes that are given at once are measured by.
 use Rattle.std.specs.Prelude.{ℕ, ◌+◌, ◌-◌, ◌^◌, min, List, [], ◌∷◌, ◌++◌, length, if◌then◌else◌, ◌==◌, Option, None, Some, Result, Ok, Err}
 use Rattle.stamp_text.specs.Format.{line_feed, line_limit}
 use Rattle.stamp_text.specs.Kept.{Kept}

@@ -27,6 +27,12 @@ AnswersByte text b r = MatchResult r
     (λ line. (fault_so_far (text ++ b ∷ []) ≡ None) × (given (text ++ b ∷ []) ≡ given text ++ option_to_list line))
     (λ f. fault_so_far (text ++ b ∷ []) ≡ Some f)
 
+-- the answer to bytes behind the text, of which none but the last ends a line or is refused
+abbrev pub AnswersBytes : List ℕ → List ℕ → Result (Option Line) LineFault → Type 0
+AnswersBytes text bytes r = MatchResult r
+    (λ line. (fault_so_far (text ++ bytes) ≡ None) × (given (text ++ bytes) ≡ given text ++ option_to_list line))
+    (λ f. (fault_so_far (text ++ bytes) ≡ Some f) × (given (text ++ bytes) ≡ given text))
+
 -- the answer to the end behind the text
 abbrev pub AnswersEnd : List ℕ → Result (Option Line) LineFault → Type 0
 AnswersEnd text r = MatchResult r

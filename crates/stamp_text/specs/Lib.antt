@@ -7,3 +7,5 @@ pub mod Grammar
 pub mod Accepted
 pub mod Kept
 pub mod FeedSteps
+pub mod Turns
+pub mod Pieces

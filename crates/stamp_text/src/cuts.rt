@@ -2,10 +2,13 @@
 ghost use Rattle.std.specs.Prelude.{◌≡◌, ◌<◌, ◌==◌, length, IfSome, OnSome, IfNone};
 ghost use Rattle.std.specs.List.{position, position_or_len, before_first, after_first};
 
+use memchr::memchr;
+
+#[tactic(auto, using(crate::proofs::PlaceLaws::first_place))]
 fn place_of(text: &[u8], byte: u8) -> Option<usize>
     ensures { result ≡ position (λ b. b == byte) text.now }
 {
-    text.iter().position(|b| *b == byte)
+    memchr(byte, text)
 }
 
 /// What stands before the first byte of this kind, and what stands behind it; `None` where there is

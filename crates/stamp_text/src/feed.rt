@@ -1,13 +1,14 @@
-// A reader of stamp files that takes one byte at a time.
-ghost use Rattle.std.specs.Prelude.{◌≡◌, ◌≢◌, IfOk, IfErr, IfSome, OnOk, ℕ, ◌^◌, ◌<◌, List, [], ◌∷◌, ◌++◌, length, Some, Err};
+// A reader of stamp files that takes one byte at a time, or those up to the end of a line.
+ghost use Rattle.std.specs.Prelude.{◌≡◌, ◌≢◌, IfOk, IfErr, IfSome, IfNone, OnOk, OnSome, ℕ, ◌+◌, ◌^◌, ◌<◌, ◌≤◌, List, [], ◌∷◌, ◌++◌, length, take, true, None, Some, Ok, Err};
 ghost use Rattle.stamp_text.specs.Cut.{without_return};
 ghost use Rattle.stamp_text.specs.Grammar.{short_says, text_says, version_says, freq_says, entry_says};
 ghost use Rattle.stamp_text.specs.Accepted.{IsLineInRange};
 
 use crate::lines::{Head, Line, LineFault, Why};
 use crate::numbers::number_of;
-use crate::stamps::stamp_of;
+use crate::stamps::{stamp_ahead, stamp_of};
 use arrayvec::ArrayVec;
+use memchr::memchr;
 use std::marker::Model;
 
 /// The most bytes of a line without its line feed.
@@ -90,7 +91,18 @@ fn text_said(line: u64, text: &[u8]) -> Result<Option<Line>, Why>
     }
 }
 
+// A line from 3 on that is a comment: it gives nothing.
+fn is_comment(line: u64, bytes: &[u8]) -> bool
+    ensures { result ≡ true → short_says line bytes.now ≡ Ok None }
+{
+    match bytes {
+        [b'#', ..] => line > 2,
+        _ => false,
+    }
+}
+
 // What a line says that is not too long.
+#[inline(always)]
 fn line_said(line: u64, bytes: &[u8]) -> Result<Option<Line>, Why>
     ensures { result ≡ short_says line bytes.now }
 {
@@ -98,7 +110,11 @@ fn line_said(line: u64, bytes: &[u8]) -> Result<Option<Line>, Why>
 }
 
 impl Feed {
-    ghost use Rattle.stamp_text.specs.Kept.{StandsFor, AnswersByte, AnswersEnd, IsFaultOfAll};
+    ghost use Rattle.std.specs.List.{All};
+    ghost use Rattle.stamp_text.specs.Format.{line_feed, line_limit};
+    ghost use Rattle.stamp_text.specs.Kept.{StandsFor, IsFaultOfAll};
+    ghost use Rattle.stamp_text.specs.Kept.{AnswersByte, AnswersBytes, AnswersEnd};
+    ghost use Rattle.stamp_text.specs.Turns.{AnswersInTurn};
     ghost use Rattle.stamp_text.specs.declared.lines.LineFault.{LineFault};
     ghost use Rattle.stamp_text.specs.FeedSteps.{step_answer, step_kept, last_answer};
 
@@ -130,8 +146,148 @@ impl Feed {
         ensures kept { IfErr result (λ fault. self.new.fault ≡ Some fault) }
         ensures again { (fault : LineFault) → self.old.fault ≡ Some fault →
             (result ≡ Err fault) × (self.new ≡ self.old) }
+
+        // What was kept decides what is answered, and what is then kept.
+        ensures step { (result ≡ step_answer self.old b) ×
+            (self.new ≡ step_kept self.old b result) }
     {
         self.step(b)
+    }
+
+    /// Takes the next bytes, up to and with the first that is a line feed or at which there is a
+    /// fault, and answers how many it took and what they give. It is as if each had been given to
+    /// `byte` in turn, and `byte` had answered nothing to each but the last. A fault that was found
+    /// before is answered again, and then no byte is taken.
+    pub fn bytes(&mut self, more: &[u8]) -> (usize, Result<Option<Line>, LineFault>)
+        ensures within { result.0 ≤ length more.now }
+        ensures goes_on { OnOk result.1 (0 < length more.now → 0 < result.0) }
+        ensures in_turn { AnswersInTurn self.old (take result.0 more.now) result.1 self.new }
+        ensures answer { (text : List ℕ) → length text + length more.now < 2 ^ 62 →
+            StandsFor self.old text → AnswersBytes text (take result.0 more.now) result.1 }
+        ensures after { (text : List ℕ) → length text + length more.now < 2 ^ 62 →
+            StandsFor self.old text → StandsFor self.new (text ++ take result.0 more.now) }
+        ensures refused { IfErr result.1 (λ fault. (text : List ℕ) →
+            length text + length more.now < 2 ^ 62 → StandsFor self.old text →
+            IsFaultOfAll (text ++ take result.0 more.now) fault) }
+        ensures ranges { IfOk result.1 (λ line. IfSome line IsLineInRange) }
+
+        // A fault is kept, and answered again.
+        ensures kept { IfErr result.1 (λ fault. self.new.fault ≡ Some fault) }
+        ensures again { (fault : LineFault) → self.old.fault ≡ Some fault →
+            (result.1 ≡ Err fault) × (self.new ≡ self.old) }
+    {
+        self.take(more)
+    }
+
+    fn take(&mut self, more: &[u8]) -> (usize, Result<Option<Line>, LineFault>)
+        ensures within { result.0 ≤ length more.now }
+        ensures goes_on { OnOk result.1 (0 < length more.now → 0 < result.0) }
+        ensures in_turn { AnswersInTurn self.old (take result.0 more.now) result.1 self.new }
+        ensures again { (fault : LineFault) → self.old.fault ≡ Some fault →
+            (result.1 ≡ Err fault) × (self.new ≡ self.old) }
+    {
+        match self.stamp_line(more) {
+            Some((count, line)) => (count, Ok(Some(line))),
+            None => self.part(more),
+        }
+    }
+
+    // Takes a stamp line with its line feed, where no line is open and the next bytes are such a
+    // line for sure. Other lines are left to `part`.
+    fn stamp_line(&mut self, more: &[u8]) -> Option<(usize, Line)>
+        ensures within { IfSome result (λ p. p.0 ≤ length more.now) }
+        ensures goes_on { IfSome result (λ p. 0 < p.0) }
+        ensures sound { OnSome result (self.old.fault ≡ None) }
+        ensures in_turn { IfSome result
+            (λ p. AnswersInTurn self.old (take p.0 more.now) (Ok (Some p.1)) self.new) }
+        ensures none { IfNone result (self.new ≡ self.old) }
+    {
+        if self.fault.is_some() || !self.line.is_empty() || self.ended < 2 {
+            return None;
+        }
+        let [b'0'..=b'9', ..] = more else {
+            return None;
+        };
+        let (answer, count) = stamp_ahead(more)?;
+        if count >= more.len() || more[count] != b'\n' {
+            return None;
+        }
+        let stamp = answer.ok()?;
+        let line = self.ended.saturating_add(1);
+        self.ended = line;
+        Some((count + 1, Line::Stamp { line, stamp }))
+    }
+
+    // Takes the bytes up to the first line feed, or as many as the line has room for.
+    fn part(&mut self, more: &[u8]) -> (usize, Result<Option<Line>, LineFault>)
+        ensures within { result.0 ≤ length more.now }
+        ensures goes_on { OnOk result.1 (0 < length more.now → 0 < result.0) }
+        ensures in_turn { AnswersInTurn self.old (take result.0 more.now) result.1 self.new }
+        ensures again { (fault : LineFault) → self.old.fault ≡ Some fault →
+            (result.1 ≡ Err fault) × (self.new ≡ self.old) }
+    {
+        if let Some(fault) = self.fault {
+            return (0, Err(fault));
+        }
+        let plain = self.plain(more);
+        if self.line.is_empty() && plain < more.len() && more[plain] == b'\n' {
+            let answer = self.whole(&more[..plain]);
+            return (plain + 1, answer);
+        }
+        self.add(&more[..plain]);
+        if plain == more.len() {
+            return (plain, Ok(None));
+        }
+        let answer = self.step(more[plain]);
+        (plain + 1, answer)
+    }
+
+    // Takes a whole line with its line feed, where no line is open. The line is kept only where it
+    // is faulty.
+    #[tactic(auto, unfolding(crate::specs::FeedSteps::step_answer))]
+    fn whole(&mut self, line: &[u8]) -> Result<Option<Line>, LineFault>
+        requires sound { self.old.fault ≡ None }
+        requires none { self.old.line ≡ [] }
+        requires room { length line.now ≤ line_limit }
+        ensures answer { result ≡ step_answer (record self.old { line = line.now }) line_feed }
+        ensures after { self.new ≡
+            step_kept (record self.old { line = line.now }) line_feed result }
+    {
+        let number = self.ended.saturating_add(1);
+        if is_comment(number, line) {
+            self.ended = number;
+            return Ok(None);
+        }
+        match line_said(number, line) {
+            Ok(given) => {
+                self.ended = number;
+                Ok(given)
+            }
+            Err(why) => {
+                let fault = LineFault { line: number, why };
+                self.add(line);
+                self.fault = Some(fault);
+                Err(fault)
+            }
+        }
+    }
+
+    // Adds bytes to the line.
+    fn add(&mut self, plain: &[u8])
+        requires { length self.old.line + length plain.now ≤ line_limit }
+        ensures { self.new ≡ record self.old { line = self.old.line ++ plain.now } }
+    {
+        let _fits = self.line.try_extend_from_slice(plain);
+    }
+
+    // How many bytes come before the first line feed, as far as the line has room for them.
+    fn plain(&self, more: &[u8]) -> usize
+        ensures within { result ≤ length more.now }
+        ensures room { length self.now.line + result ≤ line_limit }
+        ensures plain { All (λ b. b ≢ line_feed) (take result more.now) }
+    {
+        let room = self.line.remaining_capacity();
+        memchr(b'\n', more).unwrap_or(more.len()).min(room)
     }
 
     fn step(&mut self, b: u8) -> Result<Option<Line>, LineFault>

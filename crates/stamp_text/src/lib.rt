@@ -1,5 +1,5 @@
-//! Stamp files: from bytes, one at a time, to the head and the stamps of a file, and the tests that
-//! a stamp has to pass.
+//! Stamp files: from bytes, one at a time or up to a line end, to the head and the stamps of a
+//! file, and the tests that a stamp has to pass.
 #![tactic(auto)]
 
 mod accepts;

@@ -2,11 +2,14 @@
 ghost use Rattle.std.specs.Prelude.{◌≡◌, ◌<◌, [], ◌∷◌, IfSome, MatchOption};
 ghost use Rattle.stamp_text.specs.Digits.{number_in};
 ghost use Rattle.stamp_text.specs.Times.{time_in};
+ghost use Rattle.stamp_text.specs.Pieces.{BeginsWithStamp, IsNumberPiece, IsTimePiece};
 ghost use Rattle.stamp_text.specs.Stamps.{pieces_of, stamp_of_pieces, stamp_in, stamp_within, stamp_of_numbers};
 
 use crate::cuts::cut_at;
 use crate::lines::{Stamp, Why};
-use crate::numbers::{Written, number_of, time_of};
+use crate::numbers::{
+    NANO_DIGITS, Written, digits_ahead, filled, number_ahead, number_of, time_of,
+};
 use ff_grain::from_nanos;
 
 /// The first counter that is too large.
@@ -75,9 +78,65 @@ fn cut_piece(text: &[u8]) -> Option<(&[u8], &[u8])>
     cut_at(text, b' ')
 }
 
+// The number that a text begins with, and what stands behind its space.
+#[inline(always)]
+fn number_piece(text: &[u8]) -> Option<(u64, &[u8])>
+    ensures { IfSome result (λ p. IsNumberPiece text.now p.0 p.1.now) }
+{
+    let (value, count) = number_ahead(text)?;
+    if count < text.len() && text[count] == b' ' {
+        Some((value, &text[count + 1..]))
+    } else {
+        None
+    }
+}
+
+// The time that a text begins with, where it has a point, and what stands behind its space.
+#[inline(always)]
+fn time_piece(text: &[u8]) -> Option<(Written, &[u8])>
+    ensures piece { IfSome result (λ p. IsTimePiece text.now p.0 p.1.now) }
+    ensures below { IfSome result (λ p. p.0.nanos < 1000000000) }
+{
+    let (sec, count) = number_ahead(text)?;
+    if count >= text.len() || text[count] != b'.' {
+        return None;
+    }
+    let rest = &text[count + 1..];
+    let (value, digits) = digits_ahead(rest)?;
+    if digits == 0 || digits > NANO_DIGITS || digits >= rest.len() || rest[digits] != b' ' {
+        return None;
+    }
+    let nanos = filled(value, digits) as u32;
+    Some((Written { sec, nanos }, &rest[digits + 1..]))
+}
+
+/// What the stamp line says that a text begins with, and how many bytes it has, in one walk. Only
+/// lines of two counters and two times with points are told.
+#[inline(always)]
+pub fn stamp_ahead(text: &[u8]) -> Option<(Result<Stamp, Why>, usize)>
+    ensures { IfSome result (λ p. BeginsWithStamp text.now p.0 p.1) }
+{
+    let (ta, rest) = number_piece(text)?;
+    let (tb, rest) = time_piece(rest)?;
+    let (te, rest) = time_piece(rest)?;
+    let (tf, count) = number_ahead(rest)?;
+    let before = text.len() - rest.len();
+    Some((stamp_within_ranges(ta, tb, te, tf), before + count))
+}
+
 /// The stamp that a line says.
-#[tactic(auto, unfolding(crate::specs::Stamps::stamp_in))]
 pub fn stamp_of(line: &[u8]) -> Result<Stamp, Why>
+    ensures { result ≡ stamp_in line.now }
+{
+    match stamp_ahead(line) {
+        Some((answer, count)) if count == line.len() => answer,
+        _ => stamp_by_pieces(line),
+    }
+}
+
+// The same, piece by piece.
+#[tactic(auto, unfolding(crate::specs::Stamps::stamp_in))]
+fn stamp_by_pieces(line: &[u8]) -> Result<Stamp, Why>
     ensures { result ≡ stamp_in line.now }
 {
     let (a, rest) = cut_piece(line).ok_or(Why::Columns)?;

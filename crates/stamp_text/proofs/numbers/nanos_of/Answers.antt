@@ -1,18 +1,13 @@
-use Rattle.std.proofs.Common.{◌≡◌, ◌-◌, ◌^◌, ◌<◌, min, Some, sym, ap, ◌∙◌, arith}
+use Rattle.std.proofs.Common.{sym, arith}
 use Rattle.std.proofs.lemmas.Grind.{common_steps}
-use Rattle.stamp_text.specs.Digits.{value_from}
-use Rattle.stamp_text.specs.Times.{nanos_in}
-use Rattle.stamp_text.proofs.DigitLaws.{nanos_told}
+use Rattle.stamp_text.proofs.DigitLaws.{few_digits, nanos_filled}
 use Rattle.stamp_text.proofs.numbers.nanos_of.Goals as goal
 
-told : (c : goal.After-value_of) → (c.value_of.result < 1000000000) × (Some c.value_of.result ≡ nanos_in c.args.digits.now)
-told c = nanos_told c.args.digits.now c.value_of.result (grind (arith, common_steps)) (omega arith) (sym c.if-not-has_digits_alone.ensures) (c.value_of.ensures ∙ ap (λ xs. min (value_from 0 xs) (2 ^ 64 - 1)) c.filled.ensures)
-
-pub overflow_cast-result : goal.overflow_cast-result
-overflow_cast-result c = omega (arith, (told c).0)
+pub filled-requires-clause-below : goal.filled-requires-clause-below
+filled-requires-clause-below c = (few_digits c.args.digits.now c.value_of.result (omega arith) (sym c.if-not-has_digits_alone.ensures) c.value_of.ensures).1
 
 pub returns-clause-nanos : goal.returns-clause-nanos
-returns-clause-nanos c = (told c).1
-
-pub returns-clause-below : goal.returns-clause-below
-returns-clause-below c = (told c).0
+returns-clause-nanos c =
+    let digits = sym c.if-not-has_digits_alone.ensures in
+    let value = few_digits c.args.digits.now c.value_of.result (omega arith) digits c.value_of.ensures in
+    nanos_filled c.args.digits.now c.value_of.result c.filled.result (grind (arith, common_steps)) (omega arith) digits value.0 c.filled.ensures.value

@@ -1,5 +1,5 @@
 use Rattle.stamp_text.proofs.StampLaws.{five_pieces}
-use Rattle.stamp_text.proofs.stamps.stamp_of.Goals as goal
+use Rattle.stamp_text.proofs.stamps.stamp_by_pieces.Goals as goal
 
 pub returns-in-Some : goal.returns-in-Some
 returns-in-Some c =

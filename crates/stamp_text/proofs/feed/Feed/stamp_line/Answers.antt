@@ -1,0 +1,20 @@
+use Rattle.std.proofs.Common.{◌≡◌, ◌≤◌, [], None, Ok, ap, subst, get_or, arith}
+use Rattle.std.proofs.lemmas.Grind.{common_steps}
+use Rattle.stamp_text.specs.Kept.{Kept}
+use Rattle.stamp_text.specs.Pieces.{BeginsWithStamp}
+use Rattle.stamp_text.proofs.TurnLaws.{stamp_turn}
+use Rattle.stamp_text.proofs.feed.Feed.stamp_line.Goals as goal
+
+pub returns-clause-in_turn : goal.returns-clause-in_turn
+returns-clause-in_turn c =
+    let old = c.args.self.now in
+    let more = c.args.more.now in
+    let n = c.in_ok-answer.count in
+    let s = c.in_ok-stamp.stamp in
+    let none : old.fault ≡ None = grind (arith, common_steps) in
+    let empty : old.line ≡ [] = grind (arith, common_steps) in
+    let late : 2 ≤ old.ended = omega (arith, c.if-self-lt2.false, ap (λ k. k.ended) c.self.view_is) in
+    let feed : get_or more n 0 ≡ 10 = omega (arith, c.if-more-count-ne10.false) in
+    let is : c.in_ok-answer.answer ≡ Ok s = grind (arith, common_steps, c.in_ok-stamp.ensures.value, c.in_ok-stamp.was) in
+    let line : BeginsWithStamp more (Ok s) n = subst (λ r. BeginsWithStamp more r n) is c.in_ok-answer.ensures in
+    stamp_turn old _ more n c.saturating_add-line.result s none empty late (omega arith) feed line (omega (arith, c.saturating_add-line.ensures, ap (λ k. k.ended) c.self.view_is)) (ap {A = Kept} (λ k. record k { ended = c.saturating_add-line.result }) c.self.view_is)
