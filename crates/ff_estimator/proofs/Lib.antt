@@ -8,3 +8,4 @@ pub mod Taken
 pub mod Sane
 pub mod Folds
 pub mod WholeRuns
+pub mod WeighingLaws

@@ -1,8 +1,6 @@
--- The terms of a mean: their bounds where they have a weight, and one more of them.
-use Rattle.std.proofs.Common.{◌≡◌, ℕ, ◌+◌, ◌*◌, ◌/◌, ◌-◌, ◌^◌, ◌<◌, ◌≤◌, List, [], ◌∷◌, ◌++◌, map, take, drop, slice_get, slice_range, get_or, Some, ap, ◌∙◌, arith, length-drop, get_or-drop}
+-- The bounds of the terms of a mean, where they have a weight.
+use Rattle.std.proofs.Common.{ℕ, ◌+◌, ◌*◌, ◌/◌, ◌-◌, ◌^◌, ◌<◌, ◌≤◌, arith}
 use Rattle.std.proofs.Math.Nat.{div-mul-le_self, mul-le-mul_left, mul-le-mul_right}
-use Rattle.std.proofs.lemmas.List.{map_more}
-use Rattle.std.proofs.lemmas.Option.{slice_get_within, get_or_from_slice_get}
 use Rattle.stamp_text.specs.Accepted.{IsPlausible, trip}
 use Rattle.ff_grain.specs.Periods.{highest_period, nominal_period}
 use Rattle.stamp_text.specs.declared.lines.Stamp.{Stamp}
@@ -47,13 +45,3 @@ spread_below freq base now rate s sound order low some =
     let round : rate.high * trip s ≤ 1 * 2 ^ 65 = grains_le freq rate.high 1 (trip s) (omega arith) (omega arith) in
     let drift = grains_le freq (rate_error rate) 3201 (counts_since now s) (omega arith) (since_le freq base now s low sound some) in
     omega arith
-
--- what a function makes of a range that is longer by one
-pub map_range_more : {X Y : Type 0} (f : X → Y) (xs : List X) (from i : ℕ) (x : X) → from ≤ i → slice_get xs i ≡ Some x → map f (slice_range xs from (i + 1)) ≡ map f (slice_range xs from i) ++ f x ∷ []
-map_range_more f xs from i x before at =
-    let many : i + 1 - from ≡ i - from + 1 = omega arith in
-    let place : from + (i - from) ≡ i = omega arith in
-    let value : get_or (drop from xs) (i - from) x ≡ x = get_or-drop from xs (i - from) x ∙ ap (λ k. get_or xs k x) place ∙ get_or_from_slice_get xs i x x at in
-    ap (λ n. map f (take n (drop from xs))) many
-    ∙ map_more f (drop from xs) (i - from) x (omega (arith, length-drop from xs, slice_get_within xs i x at))
-    ∙ ap (λ y. map f (slice_range xs from i) ++ f y ∷ []) value

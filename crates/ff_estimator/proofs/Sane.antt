@@ -91,11 +91,11 @@ weighed : (weight x m : ℕ) → (0 < weight → x ≤ m) → weight * x ≤ wei
 weighed zero x m most = omega arith
 weighed (suc w) x m most = mul-le-mul_left (suc w) (most (omega arith))
 
-term-time : (freq base now : ℕ) (rate : Rate) (s : Stamp) → 1000000 ≤ freq → IsInRange s → IsPlausible freq s → IsRate freq rate → (let t = term_of freq base rate now s in t.weight * t.twice_time ≤ t.weight * (2 ^ 98 - 1))
+pub term-time : (freq base now : ℕ) (rate : Rate) (s : Stamp) → 1000000 ≤ freq → IsInRange s → IsPlausible freq s → IsRate freq rate → (let t = term_of freq base rate now s in t.weight * t.twice_time ≤ t.weight * (2 ^ 98 - 1))
 term-time freq base now rate s low timed sound is =
     weighed _ _ (2 ^ 98 - 1) (λ some. omega (arith, time-below s.tb timed.tb, time-below s.te timed.te, since_below freq base now rate s sound is low some))
 
-term-spread : (freq base now : ℕ) (rate : Rate) (s : Stamp) → 1000000 ≤ freq → IsPlausible freq s → IsRate freq rate → (let t = term_of freq base rate now s in t.weight * t.twice_spread ≤ t.weight * (2 ^ 98 - 1))
+pub term-spread : (freq base now : ℕ) (rate : Rate) (s : Stamp) → 1000000 ≤ freq → IsPlausible freq s → IsRate freq rate → (let t = term_of freq base rate now s in t.weight * t.twice_spread ≤ t.weight * (2 ^ 98 - 1))
 term-spread freq base now rate s low sound is = weighed _ _ (2 ^ 98 - 1) (λ some. omega (arith, spread_below freq base now rate s sound is low some))
 
 -- so are the sums of such terms

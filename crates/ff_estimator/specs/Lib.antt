@@ -6,3 +6,4 @@ pub mod Estimates
 pub mod Folds
 pub mod Daemons
 pub mod Runs
+pub mod Weighings

@@ -12,7 +12,7 @@ ghost use Rattle.ff_estimator.specs.Runs.{IsPaid};
 use crate::choices::{Taken, chosen, predicted_by};
 use crate::fulls::{Fed, Full, full_of};
 use crate::means::mean;
-use crate::rates::{Rates, rates_at};
+use crate::rates::{PairRate, Rates, rates_at};
 use ff_grain::NoMemory;
 use rate_pair::Rate;
 use rtt_window::{Base, Window};
@@ -28,6 +28,9 @@ pub struct Daemon {
     window: Window,
     taken: Taken,
     freq: u64,
+    // The rates of the last pairs.
+    far: Option<PairRate>,
+    near: Option<PairRate>,
 }
 
 impl Model for Daemon {
@@ -142,6 +145,8 @@ impl Daemon {
             window: Window::new(alloc, freq)?,
             taken,
             freq,
+            far: None,
+            near: None,
         })
     }
 
@@ -163,7 +168,7 @@ impl Daemon {
     {
         let before = newest_count(&self.window);
         let base = self.window.add(s, steps);
-        let rates = rates_at(&self.window, self.freq);
+        let rates = rates_at(&self.window, self.freq, &mut self.far, &mut self.near);
         self.taken = taken_at(
             &self.window,
             self.freq,

@@ -9,6 +9,7 @@ mod means;
 mod rates;
 #[cfg(test)]
 mod tests;
+mod weighings;
 
 pub use choices::first_has_mean;
 pub use daemon::Daemon;

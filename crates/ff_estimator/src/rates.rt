@@ -1,16 +1,87 @@
 // The rates at the newest stamp.
-ghost use Rattle.std.specs.Prelude.{◌≡◌, ◌<◌, ◌≤◌, ◌^◌};
-ghost use Rattle.rtt_window.specs.Pairs.{pair_of};
-ghost use Rattle.rate_pair.specs.Rates.{IsRate};
+ghost use Rattle.std.specs.Prelude.{◌≡◌, ◌<◌, ◌≤◌, ◌^◌, true};
+ghost use Rattle.rtt_window.specs.Pairs.{pair_of, ArePair};
+ghost use Rattle.rate_pair.specs.Rates.{IsRate, rate_of};
 ghost use Rattle.ff_estimator.specs.Rates.{rate_by, uses_local};
 ghost use Rattle.ff_estimator.specs.Daemons.{AreRates};
 
+use ff_grain::Bintime;
 use rate_pair::{Rate, nominal, of_pair};
 use rtt_window::Window;
+use stamp_text::Stamp;
+
+// Whether two times have the same seconds and grains.
+fn is_same_time(a: &Bintime, b: &Bintime) -> bool
+    ensures { result ≡ true → a.now ≡ b.now }
+{
+    a.sec == b.sec && a.frac == b.frac
+}
+
+// Whether two stamps have the same columns.
+fn is_same(a: &Stamp, b: &Stamp) -> bool
+    ensures { result ≡ true → a.now ≡ b.now }
+{
+    if a.ta != b.ta || a.tf != b.tf || !is_same_time(&a.tb, &b.tb) {
+        return false;
+    }
+    is_same_time(&a.te, &b.te)
+}
+
+/// The rate of a pair of stamps, kept as long as the pair stays.
+#[derive(Clone, Copy)]
+pub struct PairRate {
+    first: Stamp,
+    second: Stamp,
+    freq: u64,
+    rate: Rate,
+    ghost is_rate: { rate ≡ rate_of first second freq },
+    ghost order: { IsRate freq rate },
+    ghost bound: { rate.high < 2 ^ 45 },
+}
+
+impl PairRate {
+    ghost use Rattle.std.specs.Prelude.{◌≡◌, true};
+
+    // It is the rate of this pair.
+    fn is_of(&self, j: &Stamp, k: &Stamp, freq: u64) -> bool
+        ensures first { result ≡ true → self.now.first ≡ j.now }
+        ensures second { result ≡ true → self.now.second ≡ k.now }
+        ensures freq { result ≡ true → self.now.freq ≡ freq }
+    {
+        if self.freq != freq || !is_same(&self.first, j) {
+            return false;
+        }
+        is_same(&self.second, k)
+    }
+}
+
+// The rate of a pair: the kept one, or where the pair is another, its own, which is then kept.
+fn pair_rate(last: &mut Option<PairRate>, j: &Stamp, k: &Stamp, freq: u64) -> Rate
+    requires low { 1000000 ≤ freq }
+    requires high { freq ≤ 16000000000 }
+    requires pair { ArePair freq j.now k.now }
+    ensures value { result ≡ rate_of j.now k.now freq }
+    ensures order { IsRate freq result }
+    ensures bound { result.high < 2 ^ 45 }
+{
+    if let Some(kept) = *last {
+        if kept.is_of(j, k, freq) {
+            return kept.rate;
+        }
+    }
+    let rate = of_pair(j, k, freq);
+    *last = Some(PairRate {
+        first: *j,
+        second: *k,
+        freq,
+        rate,
+    });
+    rate
+}
 
 // The rate by the pair among the last stamps, as many as `reach`. With one stamp it is the nominal
-// one.
-fn rate_over(window: &Window, reach: u32, freq: u64) -> Rate
+// one. `last` keeps the rate of the last such pair.
+fn rate_over(window: &Window, reach: u32, freq: u64, last: &mut Option<PairRate>) -> Rate
     requires reach { (2 ≤ reach) × (reach ≤ 1024) }
     requires low { 1000000 ≤ freq }
     requires high { freq ≤ 16000000000 }
@@ -20,7 +91,7 @@ fn rate_over(window: &Window, reach: u32, freq: u64) -> Rate
     ensures bound { result.high < 2 ^ 45 }
 {
     match window.pair(reach) {
-        Some((j, k)) => of_pair(&j, &k, freq),
+        Some((j, k)) => pair_rate(last, &j, &k, freq),
         None => nominal(freq),
     }
 }
@@ -47,8 +118,13 @@ fn uses_local(i: u64, local: &Rate, global: &Rate) -> bool
     i >= FULL && apart * 10_000_000 <= 3 * u128::from(global.period)
 }
 
-/// The rates at the newest stamp.
-pub fn rates_at(window: &Window, freq: u64) -> Rates
+/// The rates at the newest stamp. `far` and `near` keep the rates of the last pairs.
+pub fn rates_at(
+    window: &Window,
+    freq: u64,
+    far: &mut Option<PairRate>,
+    near: &mut Option<PairRate>,
+) -> Rates
     requires low { 1000000 ≤ freq }
     requires high { freq ≤ 16000000000 }
     requires at { window.now.freq ≡ freq }
@@ -57,8 +133,8 @@ pub fn rates_at(window: &Window, freq: u64) -> Rates
     ensures order { IsRate freq result.global × IsRate freq result.in_use }
     ensures bound { result.global.high < 2 ^ 45 }
 {
-    let global = rate_over(window, 1024, freq);
-    let near = rate_over(window, 64, freq);
+    let global = rate_over(window, 1024, freq, far);
+    let near = rate_over(window, 64, freq, near);
     let local = uses_local(window.count() - 1, &near, &global);
     Rates {
         global,

@@ -122,7 +122,7 @@ pub fn grains_of(t: Bintime) -> u128
     ensures value { result ≡ grains_of t }
     ensures bound { result < 2 ^ 96 }
 {
-    t.grains().unsigned_abs()
+    u128::from(t.sec.unsigned_abs()) * SECOND as u128 + u128::from(t.frac)
 }
 
 /// The time that `delta` counts take at a period of `period` grains per count, exactly.

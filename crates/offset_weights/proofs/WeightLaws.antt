@@ -3,7 +3,7 @@ use Rattle.std.proofs.Common.{◌≡◌, ℕ, ◌+◌, ◌*◌, ◌/◌, ◌^◌
 use Rattle.std.specs.List.{list_all}
 use Rattle.std.proofs.lemmas.Bool.{and_parts}
 use Rattle.std.proofs.lemmas.Bool.Decides.{nat_tests}
-use Rattle.std.proofs.Math.Nat.{zero-div, lt-div-mul-add, mul-le-mul_right}
+use Rattle.std.proofs.Math.Nat.{zero-div, lt-div-mul-add, le-div_iff_mul-le, mul-le-mul_right}
 use Rattle.ff_grain.specs.Scales.{trip_scale}
 use Rattle.offset_weights.specs.Weights.{table, aged_excess, row_of, weight_of}
 use Rattle.offset_weights.specs.declared.weights.TheConstants.{WEIGHTS}
@@ -36,6 +36,17 @@ weight_of_young excess age freq h = young excess age (trip_scale freq) (omega ar
 -- not even 1600 seconds old
 pub weight_of_recent : (excess age freq : ℕ) → 1000000 ≤ freq → 0 < weight_of excess age freq → age < 1600 * freq
 weight_of_recent excess age freq high h = omega (arith, weight_of_young excess age freq h)
+
+-- a row behind the last entry has no weight
+entry-past : (xs : List ℕ) (i : ℕ) → length xs ≤ i → get_or xs i 0 ≡ 0
+entry-past [] i h = refl
+entry-past (x ∷ xs) zero h = absurd (omega arith)
+entry-past (x ∷ xs) (suc i) h = entry-past xs i (omega arith)
+
+-- nor has one for its excess alone, whatever its age
+pub row_past : (excess age scale : ℕ) → 0 < scale → 25 * scale ≤ 8 * excess → slice_index_or table (8 * aged_excess excess age / scale) 0 ≡ 0
+row_past excess age scale some long =
+    entry-past table (8 * aged_excess excess age / scale) ((le-div_iff_mul-le some).1 (omega arith))
 
 -- each number is smaller than the one before it
 abbrev falls : List ℕ → Bool

@@ -7,4 +7,4 @@ mod weights;
 
 pub use laws::{best_exchanges_count_whole, old_exchanges_do_not_count, weights_are_the_table};
 pub use sums::Sums;
-pub use weights::{WEIGHTS, weight};
+pub use weights::{WEIGHTS, weight, weightless_from};

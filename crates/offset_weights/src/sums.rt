@@ -32,7 +32,7 @@ impl Default for Sums {
 }
 
 impl Sums {
-    ghost use Rattle.offset_weights.specs.Means.{Term, StandsFor, mean_of, numbers_of};
+    ghost use Rattle.offset_weights.specs.Means.{Term, StandsFor, IsBounded, mean_of, numbers_of};
 
     /// No term.
     pub fn new() -> Sums
@@ -44,6 +44,20 @@ impl Sums {
             weight: 0,
             time: 0,
             spread: 0,
+        }
+    }
+
+    /// The sums over so many terms of a weight from 1 to 65536, each with twice its time and twice its
+    /// spread below 2^98 grains: their weights, and by these the times and the spreads.
+    pub fn of(added: u32, weight: u32, time: u128, spread: u128) -> Sums
+        requires { IsBounded added weight time spread }
+        ensures { result ≡ record { added = added; weight = weight; time = time; spread = spread } }
+    {
+        Sums {
+            added,
+            weight,
+            time,
+            spread,
         }
     }
 

@@ -1,5 +1,5 @@
 // The weight of an exchange by its round trip and its age.
-ghost use Rattle.std.specs.Prelude.{◌≡◌, ◌^◌, ◌<◌, ◌≤◌, slice_index_or};
+ghost use Rattle.std.specs.Prelude.{◌≡◌, ℕ, ◌^◌, ◌<◌, ◌≤◌, slice_index_or};
 ghost use Rattle.offset_weights.specs.Weights.{table, weight_of};
 
 use ff_grain::trip_scale;
@@ -15,6 +15,9 @@ pub const WEIGHTS: [u32; 25] = [
 
 /// The age, in counts, that lowers a weight as much as a round trip longer by one count.
 const AGE_OF_COUNT: u64 = 1 << 23;
+
+/// The rows that have a weight.
+const ROWS: u64 = 25;
 
 /// The rows of `WEIGHTS` within one scale of round trips.
 const ROWS_OF_SCALE: u64 = 8;
@@ -44,6 +47,15 @@ pub fn weight(excess: u64, age: u64, freq: u64) -> u32
 {
     let aged = excess + age / AGE_OF_COUNT;
     weight_of_row(ROWS_OF_SCALE * aged / trip_scale(freq))
+}
+
+/// An excess from which on no exchange has a weight, however young it is.
+#[tactic(auto, unfolding(crate::specs::Weights::weight_of), using(crate::proofs::WeightLaws::row_past))]
+pub fn weightless_from(freq: u64) -> u64
+    requires { freq ≤ 16000000000 }
+    ensures { (excess age : ℕ) → result ≤ excess → weight_of excess age freq ≡ 0 }
+{
+    (ROWS * trip_scale(freq)).div_ceil(ROWS_OF_SCALE)
 }
 
 #[cfg(test)]

@@ -4,3 +4,4 @@ pub mod FirstLeasts
 pub mod Listed
 pub mod Keeping
 pub mod Pairing
+pub mod Runs

@@ -1,5 +1,5 @@
 // The window of the latest accepted stamps.
-ghost use Rattle.std.specs.Prelude.{◌≡◌, ℕ, ◌+◌, ◌<◌, ◌≤◌, List, [], ◌∷◌, ◌++◌, length, min, slice_get, slice_range, ◌↔◌, IsTrue, IsNone, Some, IfSome, Ok, IfOk};
+ghost use Rattle.std.specs.Prelude.{◌≡◌, ℕ, ◌+◌, ◌<◌, ◌≤◌, List, [], ◌∷◌, ◌++◌, length, drop, min, slice_get, slice_range, ◌↔◌, IsTrue, IsNone, Some, IfSome, Ok, IfOk};
 ghost use Rattle.std.specs.List.{All};
 ghost use Rattle.circular_buffer.specs.Buffer.{keep_last};
 ghost use Rattle.stamp_text.specs.Accepted.{IsInRange, IsPlausible, accept_of, last_of, trip};
@@ -246,6 +246,18 @@ impl Window {
         ensures sound { IsPlausible self.now.freq result }
     {
         stamp_at(&self.stamps, i)
+    }
+
+    /// The kept stamps from the place `from` on, in two runs of which the first has the older ones.
+    pub fn from_place(&self, from: usize) -> (&[Stamp], &[Stamp])
+        ensures value { result.0.now ++ result.1.now ≡ drop from self.now.stamps }
+        ensures timed { All IsInRange result.0.now × All IsInRange result.1.now }
+        ensures sound { All (IsPlausible self.now.freq) result.0.now × All (IsPlausible self.now.freq) result.1.now }
+    {
+        let (front, back) = self.stamps.as_slices();
+        let first = from.min(front.len());
+        let rest = (from - first).min(back.len());
+        (&front[first..], &back[rest..])
     }
 
     /// The pair of stamps that a rate is taken from, among the last `reach` of the kept stamps, from 2
