@@ -4,5 +4,5 @@
 mod laws;
 mod noted;
 
-pub use laws::{clocks_never_fall, past_counts_are_current};
+pub use laws::{attempts_are_never_ahead, clocks_never_fall, past_counts_are_current};
 pub use noted::{Kept, Noted};
