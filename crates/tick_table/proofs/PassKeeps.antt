@@ -132,6 +132,10 @@ module _ (s : St) (r : Rule s) where
   later m in-J other = let h = there r.pen.journal m in-J in let long = r.stands.long in
       later_mark (world_of s.words r.pen r.last) s.words r.last r.pen.marked m h.0 (r.stands.slots.slots m h.0 h.1) refl other (omega arith) (reaches r.pen.marked r.pen.winding r.stands.slots.opened)
 
+  ten_later : (m : ℕ) → m < length r.pen.journal → marks_of s.words m ≢ full_mark m → 2 * m + 21 ≤ marks_of s.words m
+  ten_later m in-J other = let k = later m in-J other in let from = k.2 in
+      ⊎_elim (λ (odd : marks_of s.words m ≡ 2 * k.0 + 1). omega arith) (λ (even : marks_of s.words m ≡ 2 * k.0 + 2). omega arith) k.1
+
   sound_at : (t : ℕ) (h : Hands) → get_elem? r.pen.journal t ≡ some h → IsSoundAt t h
   sound_at t h at = (r.pen.journal, r.stands.legal, to_Some r.pen.journal t h at)
 
@@ -195,7 +199,11 @@ module _ (slots id : ℕ) (v : PassView) where
     keeps,
     tt,
     load_step s r id (mark_at m) v (mark_loaded x v) refl at (mark_fits (world_of s.words r.pen r.last) r.stands.back (to_some r.pen.journal 0 cold r.stands.legal.first) (later s r) v f calling),
-    (refl, λ whole is_full. let h = whole_hands (world_of s.words r.pen r.last) r.stands.back v.seen v.entries (way_of v.ask.kind) v.ask (scan_of v) f.seen (f.call calling) whole is_full in (h.0, h.1, is_read s r m h.0 (scan_of v).fields h.1 h.2, sound_at s r m h.0 h.2)),
+    (
+      refl,
+      λ whole is_full. let h = whole_hands (world_of s.words r.pen r.last) r.stands.back v.seen v.entries (way_of v.ask.kind) v.ask (scan_of v) f.seen (f.call calling) whole is_full in (h.0, h.1, is_read s r m h.0 (scan_of v).fields h.1 h.2, sound_at s r m h.0 h.2),
+      ten_later s r m (let call = f.call calling in let tick = call.tick in let near = call.near in let seen = f.seen in omega arith),
+    ),
   )
 
 -- the pen cuts a seat off
@@ -420,13 +428,28 @@ looks : (slots : ℕ) (p : PenView) → Allows Rule slots 0 (Pen p, []) 0 (λ n.
 looks slots p s r _ at _ = let same : r.pen ≡ p = pen_same r.pen p (sym r.seated ∙ at) in
     let stands : Stands s.words p r.last = subst (λ (q : PenView). Stands s.words q r.last) same r.stands in
     let tops : Tops s.views p (get_or s.words 1 0) r.crank = subst (λ (q : PenView). Tops s.views q (get_or s.words 1 0) r.crank) same r.tops in
+    let numbers : Numbers s.views p.kept p.made = subst (λ (q : PenView). Numbers s.views q.kept q.made) same r.numbers in
     let last : r.last ≡ length p.journal - 1 = let long = stands.long in omega arith in
     let unmoved : record { words = set s.words 0 (get_or s.words 0 0); homes = s.homes; views = set s.views 0 (Pen p) } ≡ s = λ i. record { words = set-get_or s.words 0 0 i; homes = s.homes; views = set_again s.views 0 (Pen p) at i } in (
       Pen p,
       keeps,
       tt,
       subst Rule (sym unmoved) r,
-      (refl, stands.turn ∙ ap (turn_of p) last, (stands.legal, (subst (λ (q : PenView). Numbers s.views q.kept q.made) same r.numbers).once, (s.words, λ e. tops.home e, λ i k e. subst (λ n. FitsKept (world_of s.words p n) k) last (stands.kept i k e)))),
+      (
+        refl,
+        stands.turn ∙ ap (turn_of p) last,
+        record {
+          journal = stands.legal;
+          once = numbers.once;
+          given = numbers.small_kept;
+          words = s.words;
+          small = stands.counter.small;
+          home = λ e. tops.home e;
+          closed = stands.counter.closed;
+          reached = λ e m h at. subst (λ o. h.count ≤ or_else o (get_or s.words 1 0)) (stands.counter.closed e) (stands.counter.ticks m h at);
+          each = λ i k e. subst (λ n. FitsKept (world_of s.words p n) k) last (stands.kept i k e);
+        },
+      ),
     )
 
 -- the same at seats that are known

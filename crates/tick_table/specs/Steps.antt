@@ -1,5 +1,6 @@
--- What each step tells: of a seat that knew m before and m' after, at a word that was r before. A store is told the value, st.first.
-use Rattle.std.specs.Prelude.{◌≡◌, ℕ, ◌+◌, ◌-◌, ◌*◌, ◌%◌, ◌<◌, ◌≤◌, ◌^◌, max, ◌==◌, ◌&&◌, true, false, List, length, slice_get, slice_index, Some}
+-- What each step tells: of a seat that knew m before and m' after, at a word that was r before. A
+-- store is told the value, st.first.
+use Rattle.std.specs.Prelude.{◌≡◌, ◌≢◌, ℕ, ◌+◌, ◌-◌, ◌*◌, ◌%◌, ◌<◌, ◌≤◌, ◌^◌, max, ◌==◌, ◌&&◌, true, false, List, length, slice_get, slice_index, Option, Some, None}
 use mathlib.Core.Option.{some}
 use lib.ListN.{get_elem?}
 use Rattle.atomic_table.specs.Table.{Me, Step}
@@ -54,13 +55,17 @@ pub record LearnsTurn (v : PassView) (w : ℕ) : Type 0 where
 abbrev pub LearnsHands : Scan → ℕ → Type 0
 LearnsHands s x = has_fields s ≡ true → x ≡ full_mark s.tick → (h : Hands) × (s.fields ≡ pack h) × (unpack s.fields ≡ h) × IsSoundAt s.tick h
 
+-- and where it does not, it is of a tick that comes at least ten later
+abbrev pub LearnsLater : Scan → ℕ → Type 0
+LearnsLater s x = x ≢ full_mark s.tick → 2 * s.tick + 21 ≤ x
+
 -- and where the turn word is again what it was. The counter is past that tick
 abbrev pub LearnsAll : Ask → Scan → ℕ → Type 0
 LearnsAll ask s x = (needs_even (way_of ask.kind) && has_fields s && (length s.counters == 1)) ≡ true → x ≡ s.first → (h : Hands) × (s.fields ≡ pack h) × (unpack s.fields ≡ h) × IsSoundAt s.tick h × (h.count ≤ counter_of s)
 
 -- the loads of a call
 abbrev pub LoadsMark : Step (Unit {0}) → Sat → ℕ → Sat → Type 0
-LoadsMark st m r m' = (m' ≡ (on_pass (mark_loaded r) m.0, m.1)) × LearnsHands (scan_of (pass_of m.0)) r
+LoadsMark st m r m' = (m' ≡ (on_pass (mark_loaded r) m.0, m.1)) × LearnsHands (scan_of (pass_of m.0)) r × LearnsLater (scan_of (pass_of m.0)) r
 
 abbrev pub LoadsTurn : Step (Unit {0}) → Sat → ℕ → Sat → Type 0
 LoadsTurn st m r m' = (m' ≡ (on_pass (turn_loaded r) m.0, m.1)) × LearnsTurn (pass_of m.0) r × LearnsAll (pass_of m.0).ask (scan_of (pass_of m.0)) r
@@ -88,14 +93,23 @@ Cranks st m r m' = (m' ≡ (on_crank (λ top. max top st.first) m.0, m.1)) × (c
 abbrev pub Opens : Ask → Step (Unit {0}) → Sat → ℕ → Sat → Type 0
 Opens ask st m r m' = (m' ≡ (on_pass (λ v. turn_loaded r (call_begun ask v)) m.0, m.1)) × LearnsTurn (pass_of m.0) r
 
--- the field's number is by its word: three words stand before field 0 of a slot, and a slot has sixteen
+-- the field's number is by its word: three words stand before field 0 of a slot, and a slot has
+-- sixteen
 abbrev pub LoadsField : Step (Unit {0}) → Sat → ℕ → Sat → Type 0
 LoadsField st m r m' = m' ≡ (on_pass (field_loaded ((st.word - 3) % 16) r) m.0, m.1)
 
--- What the pen learns at a load of the turn word: all that it kept is legal over its journal, beside the words that stood
--- then, and no pass was taken in twice
-abbrev pub LegalLogs : PenView → Type 0
-LegalLogs p = IsJournal p.journal × IsOnce p.kept × ((words : List ℕ) × (p.out ≡ false → slice_index words 1 ≡ p.top) × ((i : ℕ) (k : Kept) → get_elem? p.kept i ≡ some k → FitsKept (world_of words p (length p.journal - 1)) k))
+-- What the pen learns at a load of the turn word, beside the words that stood then: all that it
+-- kept is legal over its journal. No pass was taken in twice, and each has a number that was given
+pub record LegalLogs (p : PenView) : Type 0 where
+  pub journal : IsJournal p.journal
+  pub once : IsOnce p.kept
+  pub given : (i : ℕ) (k : Kept) → get_elem? p.kept i ≡ some k → k.number < p.made
+  pub words : List ℕ
+  pub small : slice_index words 1 < 2 ^ 62
+  pub home : p.out ≡ false → slice_index words 1 ≡ p.top
+  pub closed : p.winding ≡ false → p.loaded ≡ None
+  pub reached : p.winding ≡ false → (m : ℕ) (h : Hands) → get_elem? p.journal m ≡ some h → h.count ≤ slice_index words 1
+  pub each : (i : ℕ) (k : Kept) → get_elem? p.kept i ≡ some k → FitsKept (world_of words p (length p.journal - 1)) k
 
 abbrev pub LoadsOwnTurn : Step (Unit {0}) → Sat → ℕ → Sat → Type 0
 LoadsOwnTurn st m r m' = (m' ≡ m) × (r ≡ turn_now (pen_of m.0)) × LegalLogs (pen_of m.0)

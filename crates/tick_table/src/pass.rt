@@ -1,7 +1,7 @@
 // A reader's seat.
 ghost use Rattle.std.specs.Prelude.{◌≡◌, ◌+◌, ◌/◌, ◌^◌, ◌<◌, true};
 ghost use Rattle.tick_views.specs.Views.{turn_loaded, call_begun, field_loaded, mark_loaded, counter_loaded, learned, scan_of};
-ghost use Rattle.tick_table.specs.Steps.{LearnsTurn, LearnsHands, LearnsAll};
+ghost use Rattle.tick_table.specs.Steps.{LearnsTurn, LearnsHands, LearnsLater, LearnsAll};
 ghost use Rattle.tick_views.specs.Worlds.{AllBelow};
 
 use crate::note::NoteSeat;
@@ -76,13 +76,14 @@ impl PassSeat {
 
     /// Loads the mark of the tick that the call is at, behind its fifteen fields. Where the mark is
     /// full, and is of this tick, these fields are the words of its hands, which stand there in a
-    /// journal.
+    /// journal. Any other mark is of a tick that comes at least ten later.
     pub fn load_mark(&mut self, tick: u64) -> u64
         requires calling { self.old.view.calling ≡ true }
         requires tick { tick ≡ (scan_of self.old.view).tick }
         ensures table { self.new.table ≡ self.old.table }
         ensures view { self.new.view ≡ mark_loaded result self.old.view }
         ensures hands { LearnsHands (scan_of self.old.view) result }
+        ensures later { LearnsLater (scan_of self.old.view) result }
     {
         self.table
             .shared
