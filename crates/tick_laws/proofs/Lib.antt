@@ -1,0 +1,7 @@
+pub mod Going
+pub mod Deciding
+pub mod Reading
+pub mod Opening
+pub mod Legal
+pub mod Agreeing
+pub mod Asked
