@@ -1,5 +1,5 @@
 -- What the definition of a line says of some words.
-use Rattle.std.proofs.Common.{◌≡◌, [], ◌∷◌, None, Some, codes, refl}
+use Rattle.std.proofs.Common.{◌≡◌, [], ◌∷◌, false, true, None, Some, codes, refl}
 use Rattle.std.specs.Str.{chars}
 use Rattle.clock_words.specs.Lines.{command_in, make_row, replay_row, ticks_row}
 use Rattle.clock_words.specs.Rows.{items_from, items_in}
@@ -74,6 +74,31 @@ made : command_in (codes "make" ∷ codes "7" ∷ codes "3" ∷ []) ≡ Some (co
 unfolding command_in items_in items_from
 made = refl
 
-not_offered : command_in (codes "replay" ∷ []) ≡ None
-unfolding command_in
-not_offered = refl
+-- flags and options of `replay`, each at its default where the words do not tell
+plain_replay : command_in (codes "replay" ∷ []) ≡ Some (command.Report (report.Replay 4 2 100 false false))
+unfolding command_in items_in items_from
+plain_replay = refl
+
+full_replay : command_in (codes "replay" ∷ codes "--crank" ∷ codes "--readers=16" ∷ codes "--ticks" ∷ codes "15" ∷ codes "--back" ∷ codes "--reads" ∷ codes "16384" ∷ []) ≡ Some (command.Report (report.Replay 15 16 16384 true true))
+unfolding command_in items_in items_from
+full_replay = refl
+
+one_flag : command_in (codes "replay" ∷ codes "--reads=0" ∷ codes "--crank" ∷ []) ≡ Some (command.Report (report.Replay 4 2 0 false true))
+unfolding command_in items_in items_from
+one_flag = refl
+
+one_reader_more : command_in (codes "replay" ∷ codes "--readers=17" ∷ []) ≡ None
+unfolding command_in items_in items_from
+one_reader_more = refl
+
+one_read_more : command_in (codes "replay" ∷ codes "--reads=16385" ∷ []) ≡ None
+unfolding command_in items_in items_from
+one_read_more = refl
+
+replay_with_place : command_in (codes "replay" ∷ codes "7" ∷ []) ≡ None
+unfolding command_in items_in items_from
+replay_with_place = refl
+
+flag_of_another : command_in (codes "ticks" ∷ codes "--back" ∷ []) ≡ None
+unfolding command_in items_in items_from
+flag_of_another = refl

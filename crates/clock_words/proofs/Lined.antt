@@ -7,9 +7,9 @@ use Rattle.std.specs.Str.{bytes_eq}
 use Rattle.std.proofs.lemmas.Bool.{eqb-true}
 use Rattle.std.proofs.lemmas.Slice.Eq.{bytes_eq-Decides}
 use Rattle.stamp_text.specs.Digits.{is_number, number_in}
-use Rattle.clock_words.specs.Rows.{Text, Item, is_value, items_in, items_from, value_of}
+use Rattle.clock_words.specs.Rows.{Text, Item, is_given, is_value, items_in, items_from}
 use Rattle.clock_words.specs.Parts.{AreParts, AreWritten, nothing, flag, apart, joined, placed}
-use Rattle.clock_words.specs.Lines.{IsLine, stamps, rtt, estimate, ticks, make, bare_row, ticks_row, make_row, ticks_name, number_name, count_name, most_ticks, most_made, within, number_within, option_within, ticks_of, make_of, command_in}
+use Rattle.clock_words.specs.Lines.{IsLine, stamps, rtt, estimate, ticks, replay, make, bare_row, ticks_row, replay_row, make_row, back_name, crank_name, number_name, count_name, most_made, within, number_within, ticks_told, readers_told, reads_told, ticks_of, replay_by, replay_of, make_of, command_in}
 use Rattle.clock_words.specs.declared.commands.Command.{Command}
 use Rattle.clock_words.specs.declared.commands.Command.TheVariants as command
 use Rattle.clock_words.specs.declared.commands.Report.{Report}
@@ -52,13 +52,28 @@ bare_line r name words c line e = by_items (items_in bare_row words) refl
 ticks_line : (words : List Text) (c : Command) → option_and_then ticks_of (items_in ticks_row words) ≡ Some c → IsLine (codes "ticks" ∷ words) c
 ticks_line words c e = by_items (items_in ticks_row words) refl
   where
-    by_value : (items : List Item) → items_in ticks_row words ≡ Some items → (n : Option ℕ) → option_within 0 most_ticks 4 (value_of ticks_name items) ≡ n → option_map (λ n. command.Report (report.Ticks n)) n ≡ Some c → IsLine (codes "ticks" ∷ words) c
+    by_value : (items : List Item) → items_in ticks_row words ≡ Some items → (n : Option ℕ) → ticks_told items ≡ n → option_map (λ n. command.Report (report.Ticks n)) n ≡ Some c → IsLine (codes "ticks" ∷ words) c
     by_value items f None g h = absurd (let q : None ≡ Some c = h in cc)
     by_value items f (Some n) g h = subst (IsLine (codes "ticks" ∷ words)) (let q : command.Report (report.Ticks n) ≡ c = cc in q) (ticks words items n ((written ticks_row refl words items).0 f) g)
 
     by_items : (x : Option (List Item)) → items_in ticks_row words ≡ x → IsLine (codes "ticks" ∷ words) c
     by_items None f = absurd (let q : None ≡ Some c = sym (rw f refl) ∙ e in cc)
-    by_items (Some items) f = by_value items f (option_within 0 most_ticks 4 (value_of ticks_name items)) refl (sym (rw f refl) ∙ e)
+    by_items (Some items) f = by_value items f (ticks_told items) refl (sym (rw f refl) ∙ e)
+
+replay_line : (words : List Text) (c : Command) → option_and_then replay_of (items_in replay_row words) ≡ Some c → IsLine (codes "replay" ∷ words) c
+replay_line words c e = by_items (items_in replay_row words) refl
+  where
+    by_numbers : (items : List Item) → items_in replay_row words ≡ Some items → (n : Option ℕ) → ticks_told items ≡ n → (readers : Option ℕ) → readers_told items ≡ readers
+        → (reads : Option ℕ) → reads_told items ≡ reads → replay_by (is_given back_name items) (is_given crank_name items) n readers reads ≡ Some c → IsLine (codes "replay" ∷ words) c
+    by_numbers items f None k readers l reads m h = absurd (let q : None ≡ Some c = h in cc)
+    by_numbers items f (Some n) k None l reads m h = absurd (let q : None ≡ Some c = h in cc)
+    by_numbers items f (Some n) k (Some readers) l None m h = absurd (let q : None ≡ Some c = h in cc)
+    by_numbers items f (Some n) k (Some readers) l (Some reads) m h =
+        subst (IsLine (codes "replay" ∷ words)) (let q : command.Report (report.Replay n readers reads (is_given back_name items) (is_given crank_name items)) ≡ c = cc in q) (replay words items n readers reads ((written replay_row refl words items).0 f) k l m)
+
+    by_items : (x : Option (List Item)) → items_in replay_row words ≡ x → IsLine (codes "replay" ∷ words) c
+    by_items None f = absurd (let q : None ≡ Some c = sym (rw f refl) ∙ e in cc)
+    by_items (Some items) f = by_numbers items f _ refl _ refl _ refl (sym (rw f refl) ∙ e)
 
 -- what is made of two numbers
 abbrev made_of : Option ℕ → Option ℕ → Option Command
@@ -109,7 +124,8 @@ to_line (name ∷ words) c e =
     (named_line name (codes "rtt") words c _ _ (bare_line report.Rtt (codes "rtt") words c rtt)
     (named_line name (codes "estimate") words c _ _ (bare_line report.Estimate (codes "estimate") words c estimate)
     (named_line name (codes "ticks") words c _ _ (ticks_line words c)
-    (named_line name (codes "make") words c _ _ (make_line words c) (λ h. absurd (let q : None ≡ Some c = h in cc)))))) e
+    (named_line name (codes "replay") words c _ _ (replay_line words c)
+    (named_line name (codes "make") words c _ _ (make_line words c) (λ h. absurd (let q : None ≡ Some c = h in cc))))))) e
 
 -- ---- from a line to a command
 
@@ -150,6 +166,9 @@ to_command words c stamps = refl
 to_command words c rtt = refl
 to_command words c estimate = refl
 to_command words c (ticks rest items n w h) = ap (option_and_then ticks_of) ((written ticks_row refl rest items).1 w) ∙ ap (option_map (λ n. command.Report (report.Ticks n))) h
+to_command words c (replay rest items n readers reads w k l m) =
+    ap (option_and_then replay_of) ((written replay_row refl rest items).1 w)
+    ∙ rw (k, l, m) refl
 to_command words c (make first second number count f g) =
     ap (option_and_then make_of) ((written make_row refl _ _).1 (pair_written first second (place_plain _ _ first number f) (place_plain _ _ second count g)))
     ∙ ap (λ a. made_of a (number_within 1 most_made second)) f ∙ ap (made_of (Some number)) g

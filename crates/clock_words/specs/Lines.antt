@@ -3,7 +3,7 @@ use Rattle.std.specs.Prelude.{◌≡◌, ◌↔◌, ℕ, ◌<◌, ◌≤◌, ◌
 use Rattle.std.specs.Option.{option_zip}
 use Rattle.std.specs.Str.{bytes_eq}
 use Rattle.stamp_text.specs.Digits.{number_in}
-use Rattle.clock_words.specs.Rows.{Text, Row, Item, has, value_of, items_in}
+use Rattle.clock_words.specs.Rows.{Text, Row, Item, has, is_given, value_of, items_in}
 use Rattle.clock_words.specs.Parts.{AreWritten}
 use Rattle.clock_words.specs.declared.commands.Command.{Command}
 use Rattle.clock_words.specs.declared.commands.Command.TheVariants as command
@@ -13,6 +13,18 @@ use Rattle.clock_words.specs.declared.commands.Report.TheVariants as report
 -- the names of a row
 abbrev pub ticks_name : Text
 ticks_name = codes "ticks"
+
+abbrev pub readers_name : Text
+readers_name = codes "readers"
+
+abbrev pub reads_name : Text
+reads_name = codes "reads"
+
+abbrev pub back_name : Text
+back_name = codes "back"
+
+abbrev pub crank_name : Text
+crank_name = codes "crank"
 
 abbrev pub number_name : Text
 number_name = codes "NUMBER"
@@ -32,9 +44,9 @@ ticks_row = record { places = []; options = ticks_name ∷ []; flags = [] }
 abbrev pub make_row : Row
 make_row = record { places = number_name ∷ count_name ∷ []; options = []; flags = [] }
 
--- `--ticks T`, `--readers N`, `--reads M`, `--back` and `--crank`, for a command `replay` that is not offered yet
+-- `--ticks T`, `--readers N`, `--reads M`, `--back` and `--crank`
 abbrev pub replay_row : Row
-replay_row = record { places = []; options = ticks_name ∷ codes "readers" ∷ codes "reads" ∷ []; flags = codes "back" ∷ codes "crank" ∷ [] }
+replay_row = record { places = []; options = ticks_name ∷ readers_name ∷ reads_name ∷ []; flags = back_name ∷ crank_name ∷ [] }
 
 -- the number that a text is, from `least` to `most`
 abbrev pub within : ℕ → ℕ → Option ℕ → Option ℕ
@@ -57,13 +69,39 @@ place_within least most text = option_and_then (number_within least most) text
 abbrev pub most_ticks : ℕ
 most_ticks = 15
 
+-- the most readers
+abbrev pub most_readers : ℕ
+most_readers = 16
+
+-- the most readings of one reader
+abbrev pub most_reads : ℕ
+most_reads = 16384
+
 -- the most stamps that are made
 abbrev pub most_made : ℕ
 most_made = 16384
 
+-- the numbers that options give: 4 plain steps between two estimates where the words do not tell, 2 readers, and 100 readings of each
+abbrev pub ticks_told : List Item → Option ℕ
+ticks_told items = option_within 0 most_ticks 4 (value_of ticks_name items)
+
+abbrev pub readers_told : List Item → Option ℕ
+readers_told items = option_within 0 most_readers 2 (value_of readers_name items)
+
+abbrev pub reads_told : List Item → Option ℕ
+reads_told items = option_within 0 most_reads 100 (value_of reads_name items)
+
 -- `ticks`: so many plain steps between two estimates, and 4 where the words do not tell
 abbrev pub ticks_of : List Item → Option Command
-ticks_of items = option_map (λ n. command.Report (report.Ticks n)) (option_within 0 most_ticks 4 (value_of ticks_name items))
+ticks_of items = option_map (λ n. command.Report (report.Ticks n)) (ticks_told items)
+
+-- `replay` by three numbers, where each is one, and two flags
+abbrev pub replay_by : Bool → Bool → Option ℕ → Option ℕ → Option ℕ → Option Command
+replay_by back crank n readers reads = option_map (λ n. command.Report (report.Replay n.0 n.1.0 n.1.1 back crank)) (option_zip n (option_zip readers reads))
+
+-- `replay`: the numbers of its options, and which of its flags are given
+abbrev pub replay_of : List Item → Option Command
+replay_of items = replay_by (is_given back_name items) (is_given crank_name items) (ticks_told items) (readers_told items) (reads_told items)
 
 -- `make`: a number below 2^32, and a count from 1 to 16,384
 abbrev pub make_of : List Item → Option Command
@@ -76,12 +114,15 @@ bare_in r words = option_map (λ items. command.Report r) (items_in bare_row wor
 abbrev pub ticks_in : List Text → Option Command
 ticks_in words = option_and_then ticks_of (items_in ticks_row words)
 
+abbrev pub replay_in : List Text → Option Command
+replay_in words = option_and_then replay_of (items_in replay_row words)
+
 abbrev pub make_in : List Text → Option Command
 make_in words = option_and_then make_of (items_in make_row words)
 
 -- the names of the commands
 abbrev pub command_names : List Text
-command_names = codes "stamps" ∷ codes "rtt" ∷ codes "estimate" ∷ codes "ticks" ∷ codes "make" ∷ []
+command_names = codes "stamps" ∷ codes "rtt" ∷ codes "estimate" ∷ codes "ticks" ∷ codes "replay" ∷ codes "make" ∷ []
 
 -- words begin with the name of a command
 abbrev pub begins_with_name : List Text → Bool
@@ -95,8 +136,9 @@ command_named name words =
     else (if bytes_eq name (codes "rtt") then bare_in report.Rtt words
     else (if bytes_eq name (codes "estimate") then bare_in report.Estimate words
     else (if bytes_eq name (codes "ticks") then ticks_in words
+    else (if bytes_eq name (codes "replay") then replay_in words
     else (if bytes_eq name (codes "make") then make_in words
-    else None))))
+    else None)))))
 
 -- the command that words are, if they are a line
 unfoldable pub command_in : List Text → Option Command
@@ -108,7 +150,9 @@ pub data IsLine : List Text → Command → Type 0 where
   stamps : IsLine (codes "stamps" ∷ []) (command.Report report.Stamps)
   rtt : IsLine (codes "rtt" ∷ []) (command.Report report.Rtt)
   estimate : IsLine (codes "estimate" ∷ []) (command.Report report.Estimate)
-  ticks : (words : List Text) (items : List Item) (n : ℕ) → AreWritten ticks_row words items → option_within 0 most_ticks 4 (value_of ticks_name items) ≡ Some n → IsLine (codes "ticks" ∷ words) (command.Report (report.Ticks n))
+  ticks : (words : List Text) (items : List Item) (n : ℕ) → AreWritten ticks_row words items → ticks_told items ≡ Some n → IsLine (codes "ticks" ∷ words) (command.Report (report.Ticks n))
+  replay : (words : List Text) (items : List Item) (n readers reads : ℕ) → AreWritten replay_row words items → ticks_told items ≡ Some n → readers_told items ≡ Some readers → reads_told items ≡ Some reads
+      → IsLine (codes "replay" ∷ words) (command.Report (report.Replay n readers reads (is_given back_name items) (is_given crank_name items)))
   make : (first second : Text) (number count : ℕ) → number_within 0 (2 ^ 32 - 1) first ≡ Some number → number_within 1 most_made second ≡ Some count → IsLine (codes "make" ∷ first ∷ second ∷ []) (command.Make number count)
 
 -- what is found is the command of a line, and nothing where words are no line
@@ -121,6 +165,7 @@ IsReportInRange report.Stamps = Unit {0}
 IsReportInRange report.Rtt = Unit {0}
 IsReportInRange report.Estimate = Unit {0}
 IsReportInRange (report.Ticks n) = n ≤ most_ticks
+IsReportInRange (report.Replay n readers reads back crank) = (n ≤ most_ticks) × (readers ≤ most_readers) × (reads ≤ most_reads)
 
 -- the numbers of a command are in their ranges
 abbrev pub IsCommandInRange : Command → Type 0

@@ -11,7 +11,23 @@ pub enum Report {
     Estimate,
     /// The journal of ticks that the daemon's estimates make on a kernel clock, with so many plain
     /// steps between two of them, at most 15.
-    Ticks { ticks: u32 },
+    Ticks {
+        ticks: u32,
+    },
+    /// The daemon's estimates, the refused stamps, the journal of ticks that they make, and what
+    /// readers of the clock read while it was made.
+    Replay {
+        /// How many plain steps stand between two estimates, at most 15.
+        ticks: u32,
+        /// How many readers read the clock beside its driver, at most 16.
+        readers: u32,
+        /// How often each reader reads, at most 16,384 times.
+        reads: u32,
+        /// The readers also convert a count of their own past.
+        back: bool,
+        /// The counter is raised beside the driver too.
+        crank: bool,
+    },
 }
 
 /// A command of the program.

@@ -1,8 +1,8 @@
 // The lines of the program.
-ghost use Rattle.std.specs.Prelude.{◌≡◌, ◌≤◌, ◌<◌, ◌^◌, ◌-◌, IfOk, IfErr, OnErr, IfSome, true};
+ghost use Rattle.std.specs.Prelude.{◌≡◌, ◌≤◌, ◌<◌, ◌^◌, ◌-◌, IfOk, IfErr, OnErr, IfSome, true, option_map};
 ghost use Rattle.clap.specs.Values.{kind_of};
 ghost use Rattle.clock_words.specs.Rows.{has, texts};
-ghost use Rattle.clock_words.specs.Lines.{IsCommandOf, IsCommandInRange, IsReportInRange, bare_in, ticks_in, make_in, number_within, command_names, begins_with_name, command_named, command_in};
+ghost use Rattle.clock_words.specs.Lines.{IsCommandOf, IsCommandInRange, IsReportInRange, bare_in, ticks_in, replay_in, make_in, number_within, option_within, command_names, begins_with_name, command_named, command_in};
 
 use crate::{Command, Report, rows};
 use clap::Error;
@@ -16,6 +16,18 @@ const TICKS: u64 = 4;
 
 /// The most plain steps between two estimates.
 const MOST_TICKS: u64 = 15;
+
+/// How many readers read the clock where the words do not tell.
+const READERS: u64 = 2;
+
+/// The most readers.
+const MOST_READERS: u64 = 16;
+
+/// How often each reader reads where the words do not tell.
+const READS: u64 = 100;
+
+/// The most readings of one reader.
+const MOST_READS: u64 = 16_384;
 
 /// The greatest number that made stamps are drawn by.
 const MOST_NUMBER: u64 = 4_294_967_295;
@@ -32,6 +44,19 @@ fn number_within(least: u64, most: u64, text: &str) -> Option<u64>
     match number_of(text.as_bytes()) {
         Some(n) if least <= n && n <= most => Some(n),
         _ => None,
+    }
+}
+
+// The value of an option, up to `most`, or what stands for it where the words do not give it.
+fn option_within(most: u64, default: u64, text: Option<&str>) -> Option<u64>
+    requires most { most < 2 ^ 64 - 1 }
+    requires default { default ≤ most }
+    ensures value { result ≡ option_within 0 most default (option_map (λ t. t.now) text.entry) }
+    ensures within { IfSome result (λ n. n ≤ most) }
+{
+    match text {
+        Some(text) => number_within(0, most, text),
+        None => Some(default),
     }
 }
 
@@ -56,15 +81,35 @@ fn ticks<'a>(alloc: Global, words: &'a [&'a str]) -> Result<Option<Command>, Err
     let Some(arguments) = rows::ticks(alloc, words)? else {
         return Ok(None);
     };
-    let ticks = match arguments.value("ticks") {
-        Some(text) => number_within(0, MOST_TICKS, text),
-        None => Some(TICKS),
-    };
-    match ticks {
+    match option_within(MOST_TICKS, TICKS, arguments.value("ticks")) {
         Some(ticks) => Ok(Some(Command::Report(Report::Ticks {
             ticks: ticks as u32,
         }))),
         None => Ok(None),
+    }
+}
+
+fn replay<'a>(alloc: Global, words: &'a [&'a str]) -> Result<Option<Command>, Error>
+    ensures value { IfOk result (λ found. found ≡ replay_in (texts words.entry.now)) }
+    ensures ranged { IfOk result (λ found. IfSome found IsCommandInRange) }
+    ensures memory { IfErr result (λ e. kind_of e ≡ ErrorKind.OutOfMemory) }
+{
+    let Some(arguments) = rows::replay(alloc, words)? else {
+        return Ok(None);
+    };
+    match (
+        option_within(MOST_TICKS, TICKS, arguments.value("ticks")),
+        option_within(MOST_READERS, READERS, arguments.value("readers")),
+        option_within(MOST_READS, READS, arguments.value("reads")),
+    ) {
+        (Some(ticks), Some(readers), Some(reads)) => Ok(Some(Command::Report(Report::Replay {
+            ticks: ticks as u32,
+            readers: readers as u32,
+            reads: reads as u32,
+            back: arguments.flag("back"),
+            crank: arguments.flag("crank"),
+        }))),
+        _ => Ok(None),
     }
 }
 
@@ -107,6 +152,7 @@ fn command_named<'a>(
         "rtt" => bare(alloc, Report::Rtt, words),
         "estimate" => bare(alloc, Report::Estimate, words),
         "ticks" => ticks(alloc, words),
+        "replay" => replay(alloc, words),
         "make" => make(alloc, words),
         _ => Ok(None),
     }
