@@ -14,6 +14,11 @@ use Rattle.ff_hands.specs.declared.hands.Hands.{Hands}
 use Rattle.ff_hands.specs.declared.hands.How.{How}
 use Rattle.ff_hands.specs.declared.hands.How.TheVariants as how
 use Rattle.ff_estimator.specs.declared.fulls.Full.{Full}
+use Rattle.clock_lines.specs.declared.readings.Kind.{Kind}
+use Rattle.clock_lines.specs.declared.readings.Kind.TheVariants as kind
+use Rattle.clock_lines.specs.declared.readings.Reading.{Reading}
+use Rattle.clock_lines.specs.declared.readings.Entry.{Entry}
+use Rattle.clock_lines.specs.declared.readings.Entry.TheVariants as entry
 use Rattle.stamp_maker.specs.declared.made.Made.{Made}
 use Rattle.report_text.specs.declared.lines.ReportHead.{ReportHead}
 use Rattle.report_text.specs.declared.lines.ReportHead.TheVariants as head
@@ -27,12 +32,21 @@ use Rattle.report_text.specs.declared.lines.FaultText.TheVariants as fault
 abbrev pub time_text : Bintime → List ℕ
 time_text t = signed_decimal t.sec ++ codes "+" ++ decimal t.frac
 
+-- a word where it is so
+abbrev pub mark_text : List ℕ → Bool → List ℕ
+mark_text word b = if b then word else []
+
+-- how many ticks, readers and attempts of each a replay has, and which flags
+unfoldable pub options_part : ℕ → ℕ → ℕ → Bool → Bool → List ℕ
+options_part ticks readers reads back crank = codes " ticks " ++ decimal ticks ++ codes " readers " ++ decimal readers ++ codes " reads " ++ decimal reads ++ mark_text (codes " back") back ++ mark_text (codes " crank") crank
+
 -- the first line of a report
 unfoldable pub head_text : ReportHead → List ℕ
 head_text (head.Stamps freq) = codes "report stamps freq " ++ decimal freq ++ codes "\n"
 head_text (head.Rtt freq) = codes "report rtt freq " ++ decimal freq ++ codes "\n"
 head_text (head.Estimate freq) = codes "report estimate freq " ++ decimal freq ++ codes "\n"
 head_text (head.Ticks freq ticks) = codes "report ticks freq " ++ decimal freq ++ codes " ticks " ++ decimal ticks ++ codes "\n"
+head_text (head.Replay freq ticks readers reads back crank) = codes "report replay freq " ++ decimal freq ++ options_part ticks readers reads back crank ++ codes "\n"
 
 -- the line of an accepted stamp, with its round trip
 unfoldable pub stamp_text : ℕ → Stamp → List ℕ
@@ -103,6 +117,30 @@ refused_name refused.Acausal = codes "acausal"
 -- the line of a refused stamp
 unfoldable pub refused_text : ℕ → Refused → List ℕ
 refused_text line why = codes "refused " ++ decimal line ++ codes " " ++ refused_name why ++ codes "\n"
+
+abbrev pub kind_name : Kind → List ℕ
+kind_name kind.Abs = codes "abs"
+kind_name kind.Mono = codes "mono"
+kind_name kind.Uptime = codes "uptime"
+kind_name kind.Fast = codes "fast"
+kind_name kind.Diff = codes "diff"
+kind_name kind.Back = codes "back"
+kind_name kind.Utc = codes "utc"
+
+-- the reader and the number of an attempt
+unfoldable pub attempt_part : ℕ → ℕ → List ℕ
+attempt_part reader k = decimal reader ++ codes " " ++ decimal k ++ codes " "
+
+-- a reading: its kind, its tick, the count that it is at, the time, and the bound
+unfoldable pub reading_part : Reading → List ℕ
+reading_part r = kind_name r.kind ++ codes " " ++ decimal r.tick ++ codes " " ++ decimal r.count ++ codes " " ++ time_text r.time ++ codes " " ++ decimal r.bound
+
+-- the line of an attempt of a reader, both counted from 0: what the attempt came to
+unfoldable pub entry_text : ℕ → ℕ → Entry → List ℕ
+entry_text reader k (entry.Read r) = codes "read " ++ attempt_part reader k ++ reading_part r ++ codes "\n"
+entry_text reader k (entry.Again kind first last) = codes "again " ++ attempt_part reader k ++ kind_name kind ++ codes " " ++ decimal first ++ codes " " ++ decimal last ++ codes "\n"
+entry_text reader k (entry.TooOld count oldest) = codes "old " ++ attempt_part reader k ++ decimal count ++ codes " " ++ decimal oldest ++ codes "\n"
+entry_text reader k (entry.Ahead count at) = codes "ahead " ++ attempt_part reader k ++ decimal count ++ codes " " ++ decimal at ++ codes "\n"
 
 -- a word and a number, where there is one
 abbrev pub count_text : List ℕ → Option ℕ → List ℕ

@@ -2,12 +2,14 @@
 //! and pushes it at once.
 #![tactic(auto)]
 
+mod entries;
 mod laws;
 mod line;
 mod lines;
 mod made;
 mod names;
 
+pub use entries::entry_line;
 pub use laws::{made_files_are_read, made_lines_are_read};
 pub use lines::{
     EndCounts, FaultText, Limit, ReportHead, base_line, end_line, estimate_line, fault_line,

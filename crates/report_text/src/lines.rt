@@ -1,9 +1,10 @@
-// The kinds of line. A line's push fails exactly where the sink's push of its text does.
+// The kinds of line, each made from its end. A line's push fails exactly where the sink's push of its
+// text does.
 ghost use Rattle.std.specs.Prelude.{◌≡◌, ◌≤◌, ◌+◌, ◌++◌, length};
-ghost use Rattle.report_text.specs.Text.{head_text, stamp_text, base_text, time_part, spread_part, estimate_text, clock_part, given_part, leap_part, tick_text, refused_text, end_text, fault_text};
+ghost use Rattle.report_text.specs.Text.{options_part, head_text, stamp_text, base_text, time_part, spread_part, estimate_text, clock_part, given_part, leap_part, tick_text, refused_text, end_text, fault_text};
 
 use crate::line::LineText;
-use crate::names::{how_name, limit_name, marks_name, refused_name, why_name};
+use crate::names::{add_how, add_marks, limit_name, refused_name, why_name};
 use ff_estimator::Full;
 use ff_hands::{Estimate, Hands};
 use rad_io::{Failed, Sink};
@@ -14,13 +15,33 @@ use stamp_text::{LineFault, Refused, Stamp};
 #[derive(Clone, Copy, Debug, PartialEq, Eq)]
 pub enum ReportHead {
     /// The report on stamps; `freq` is the counter's nominal frequency in Hz.
-    Stamps { freq: u64 },
+    Stamps {
+        freq: u64,
+    },
     /// The report on the bases of the round trips.
-    Rtt { freq: u64 },
+    Rtt {
+        freq: u64,
+    },
     /// The report on the estimates.
-    Estimate { freq: u64 },
+    Estimate {
+        freq: u64,
+    },
     /// The report on the journal of ticks, with so many between two estimates.
-    Ticks { freq: u64, ticks: u32 },
+    Ticks {
+        freq: u64,
+        ticks: u32,
+    },
+    /// The report on a replay: the ticks as above, so many readers, and so many attempts of each.
+    Replay {
+        freq: u64,
+        ticks: u32,
+        readers: u32,
+        reads: u32,
+        /// Every sixth attempt converts a count of the past.
+        back: bool,
+        /// A crank raises the counter beside the one who winds.
+        crank: bool,
+    },
 }
 
 /// What the end line counts. Ticks and entries are told where a report has them.
@@ -62,32 +83,68 @@ pub enum FaultText {
     Memory,
 }
 
+// Adds the options of a replay.
+#[tactic(auto, unfolding(crate::specs::Text::options_part))]
+fn add_options_part(
+    line: &mut LineText,
+    ticks: u32,
+    readers: u32,
+    reads: u32,
+    back: bool,
+    crank: bool,
+)
+    requires { length line.old + 240 ≤ 640 }
+    ensures text { line.new ≡ options_part ticks readers reads back crank ++ line.old }
+    ensures short { length line.new ≤ length line.old + 200 }
+{
+    line.mark(b" crank", crank);
+    line.mark(b" back", back);
+    line.number(u64::from(reads));
+    line.word(b" reads ");
+    line.number(u64::from(readers));
+    line.word(b" readers ");
+    line.number(u64::from(ticks));
+    line.word(b" ticks ");
+}
+
 #[tactic(auto, unfolding(crate::specs::Text::head_text))]
 fn head(h: ReportHead) -> LineText
     ensures { result ≡ head_text h }
 {
     let mut line = LineText::new();
+    line.word(b"\n");
     match h {
         ReportHead::Stamps { freq } => {
-            line.word(b"report stamps freq ");
             line.number(freq);
+            line.word(b"report stamps freq ");
         }
         ReportHead::Rtt { freq } => {
-            line.word(b"report rtt freq ");
             line.number(freq);
+            line.word(b"report rtt freq ");
         }
         ReportHead::Estimate { freq } => {
-            line.word(b"report estimate freq ");
             line.number(freq);
+            line.word(b"report estimate freq ");
         }
         ReportHead::Ticks { freq, ticks } => {
-            line.word(b"report ticks freq ");
-            line.number(freq);
+            line.number(u64::from(ticks));
             line.word(b" ticks ");
-            line.number(ticks);
+            line.number(freq);
+            line.word(b"report ticks freq ");
+        }
+        ReportHead::Replay {
+            freq,
+            ticks,
+            readers,
+            reads,
+            back,
+            crank,
+        } => {
+            add_options_part(&mut line, ticks, readers, reads, back, crank);
+            line.number(freq);
+            line.word(b"report replay freq ");
         }
     }
-    line.word(b"\n");
     line
 }
 
@@ -106,19 +163,14 @@ pub fn stamp_line<K: Sink>(sink: &mut K, i: u64, s: &Stamp) -> Result<(), Failed
     ensures { K.push_gives sink.old (stamp_text i s.now) result sink.new }
 {
     let mut line = LineText::new();
-    line.word(b"stamp ");
-    line.number(i);
-    line.word(b" ");
-    line.number(s.ta);
-    line.word(b" ");
-    line.time(s.tb);
-    line.word(b" ");
-    line.time(s.te);
-    line.word(b" ");
-    line.number(s.tf);
-    line.word(b" ");
-    line.number(s.tf - s.ta);
     line.word(b"\n");
+    line.column(s.tf - s.ta);
+    line.column(s.tf);
+    line.time_column(s.te);
+    line.time_column(s.tb);
+    line.column(s.ta);
+    line.number(i);
+    line.word(b"stamp ");
     sink.push(line.bytes())
 }
 
@@ -129,17 +181,14 @@ pub fn base_line<K: Sink>(sink: &mut K, i: u64, rtt: u64, b: &Base) -> Result<()
     ensures { K.push_gives sink.old (base_text i rtt b.now) result sink.new }
 {
     let mut line = LineText::new();
-    line.word(b"base ");
-    line.number(i);
-    line.word(b" ");
-    line.number(rtt);
-    line.word(b" ");
-    line.number(b.base);
-    line.word(b" ");
-    line.number(b.start);
-    line.word(b" ");
-    line.flag(b.shifted);
     line.word(b"\n");
+    line.flag(b.shifted);
+    line.word(b" ");
+    line.column(b.start);
+    line.column(b.base);
+    line.column(rtt);
+    line.number(i);
+    line.word(b"base ");
     sink.push(line.bytes())
 }
 
@@ -147,38 +196,32 @@ pub fn base_line<K: Sink>(sink: &mut K, i: u64, rtt: u64, b: &Base) -> Result<()
 #[tactic(auto, unfolding(crate::specs::Text::time_part))]
 fn add_time_part(line: &mut LineText, e: &Estimate)
     requires { length line.old + 240 ≤ 640 }
-    ensures text { line.new ≡ line.old ++ time_part e.now }
+    ensures text { line.new ≡ time_part e.now ++ line.old }
     ensures short { length line.new ≤ length line.old + 200 }
 {
+    add_marks(line, e.status);
+    line.word(b" ");
+    line.column(u64::from(e.errb_rate));
+    line.column(u64::from(e.errb_abs));
+    line.column(e.period);
+    line.time_column(e.update_time);
     line.number(e.update_ffcount);
-    line.word(b" ");
-    line.time(e.update_time);
-    line.word(b" ");
-    line.number(e.period);
-    line.word(b" ");
-    line.number(e.errb_abs);
-    line.word(b" ");
-    line.number(e.errb_rate);
-    line.word(b" ");
-    line.word(marks_name(e.status));
 }
 
 // Adds what stands behind an estimate: the spread, the bounds of the period, and the flags.
 #[tactic(auto, unfolding(crate::specs::Text::spread_part))]
 fn add_spread_part(line: &mut LineText, f: &Full)
     requires { length line.old + 240 ≤ 640 }
-    ensures text { line.new ≡ line.old ++ spread_part f.now }
+    ensures text { line.new ≡ spread_part f.now ++ line.old }
     ensures short { length line.new ≤ length line.old + 200 }
 {
-    line.number(f.spread);
-    line.word(b" ");
-    line.number(f.rate.low);
-    line.word(b" ");
-    line.number(f.rate.high);
-    line.word(b" ");
-    line.letter(b"S", f.shifted);
-    line.letter(b"L", f.local);
     line.letter(b"P", f.predicted);
+    line.letter(b"L", f.local);
+    line.letter(b"S", f.shifted);
+    line.word(b" ");
+    line.column(f.rate.high);
+    line.column(f.rate.low);
+    line.wide(f.spread);
 }
 
 /// Pushes the line of the accepted stamp with the index `i`, from 0, with all that is said at it.
@@ -187,13 +230,13 @@ pub fn estimate_line<K: Sink>(sink: &mut K, i: u64, f: &Full) -> Result<(), Fail
     ensures { K.push_gives sink.old (estimate_text i f.now) result sink.new }
 {
     let mut line = LineText::new();
-    line.word(b"estimate ");
-    line.number(i);
+    line.word(b"\n");
+    add_spread_part(&mut line, f);
     line.word(b" ");
     add_time_part(&mut line, &f.est);
     line.word(b" ");
-    add_spread_part(&mut line, f);
-    line.word(b"\n");
+    line.number(i);
+    line.word(b"estimate ");
     sink.push(line.bytes())
 }
 
@@ -201,56 +244,47 @@ pub fn estimate_line<K: Sink>(sink: &mut K, i: u64, f: &Full) -> Result<(), Fail
 #[tactic(auto, unfolding(crate::specs::Text::clock_part))]
 fn add_clock_part(line: &mut LineText, h: &Hands)
     requires { length line.old + 300 ≤ 640 }
-    ensures text { line.new ≡ line.old ++ clock_part h.now }
+    ensures text { line.new ≡ clock_part h.now ++ line.old }
     ensures short { length line.new ≤ length line.old + 240 }
 {
-    line.word(how_name(h.how));
+    add_marks(line, h.kstatus);
     line.word(b" ");
-    line.number(h.count);
-    line.word(b" ");
-    line.time(h.time);
-    line.word(b" ");
-    line.time(h.lerp);
-    line.word(b" ");
-    line.number(h.period_lerp);
-    line.word(b" ");
-    line.time(h.boot);
-    line.word(b" ");
-    line.word(marks_name(h.kstatus));
+    line.time_column(h.boot);
+    line.column(h.period_lerp);
+    line.time_column(h.lerp);
+    line.time_column(h.time);
+    line.column(h.count);
+    add_how(line, h.how);
 }
 
 // Adds the estimate that the clocks go by.
 #[tactic(auto, unfolding(crate::specs::Text::given_part))]
 fn add_given_part(line: &mut LineText, e: &Estimate)
     requires { length line.old + 240 ≤ 640 }
-    ensures text { line.new ≡ line.old ++ given_part e.now }
+    ensures text { line.new ≡ given_part e.now ++ line.old }
     ensures short { length line.new ≤ length line.old + 200 }
 {
+    add_marks(line, e.status);
+    line.word(b" ");
+    line.column(u64::from(e.errb_rate));
+    line.column(u64::from(e.errb_abs));
+    line.column(e.period);
+    line.column(e.update_ffcount);
     line.time(e.update_time);
-    line.word(b" ");
-    line.number(e.update_ffcount);
-    line.word(b" ");
-    line.number(e.period);
-    line.word(b" ");
-    line.number(e.errb_abs);
-    line.word(b" ");
-    line.number(e.errb_rate);
-    line.word(b" ");
-    line.word(marks_name(e.status));
 }
 
 // Adds its leap seconds.
 #[tactic(auto, unfolding(crate::specs::Text::leap_part))]
 fn add_leap_part(line: &mut LineText, e: &Estimate)
     requires { length line.old + 122 ≤ 640 }
-    ensures text { line.new ≡ line.old ++ leap_part e.now }
+    ensures text { line.new ≡ leap_part e.now ++ line.old }
     ensures short { length line.new ≤ length line.old + 122 }
 {
+    line.signed(i64::from(e.leapsec));
+    line.word(b" ");
+    line.signed(i64::from(e.leapsec_total));
+    line.word(b" ");
     line.number(e.leapsec_next);
-    line.word(b" ");
-    line.number(e.leapsec_total);
-    line.word(b" ");
-    line.number(e.leapsec);
 }
 
 /// Pushes the line of the tick with the number `n`, from 0.
@@ -259,15 +293,15 @@ pub fn tick_line<K: Sink>(sink: &mut K, n: u64, h: &Hands) -> Result<(), Failed>
     ensures { K.push_gives sink.old (tick_text n h.now) result sink.new }
 {
     let mut line = LineText::new();
-    line.word(b"tick ");
-    line.number(n);
-    line.word(b" ");
-    add_clock_part(&mut line, h);
+    line.word(b"\n");
+    add_leap_part(&mut line, &h.est);
     line.word(b" ");
     add_given_part(&mut line, &h.est);
     line.word(b" ");
-    add_leap_part(&mut line, &h.est);
-    line.word(b"\n");
+    add_clock_part(&mut line, h);
+    line.word(b" ");
+    line.number(n);
+    line.word(b"tick ");
     sink.push(line.bytes())
 }
 
@@ -277,11 +311,11 @@ pub fn refused_line<K: Sink>(sink: &mut K, line: u64, why: Refused) -> Result<()
     ensures { K.push_gives sink.old (refused_text line why) result sink.new }
 {
     let mut text = LineText::new();
-    text.word(b"refused ");
-    text.number(line);
-    text.word(b" ");
-    text.word(refused_name(why));
     text.word(b"\n");
+    text.word(refused_name(why));
+    text.word(b" ");
+    text.number(line);
+    text.word(b"refused ");
     sink.push(text.bytes())
 }
 
@@ -291,13 +325,13 @@ pub fn end_line<K: Sink>(sink: &mut K, e: &EndCounts) -> Result<(), Failed>
     ensures { K.push_gives sink.old (end_text e.now) result sink.new }
 {
     let mut line = LineText::new();
-    line.word(b"end accepted ");
-    line.number(e.accepted);
-    line.word(b" refused ");
-    line.number(e.refused);
-    line.count(b" ticks ", e.ticks);
-    line.count(b" entries ", e.entries);
     line.word(b"\n");
+    line.count(b" entries ", e.entries);
+    line.count(b" ticks ", e.ticks);
+    line.number(e.refused);
+    line.word(b" refused ");
+    line.number(e.accepted);
+    line.word(b"end accepted ");
     sink.push(line.bytes())
 }
 
@@ -306,25 +340,25 @@ fn fault(f: FaultText) -> LineText
     ensures { result ≡ fault_text f }
 {
     let mut line = LineText::new();
+    line.word(b"\n");
     match f {
         FaultText::Usage => line.word(b"fault usage"),
         FaultText::Input(fault) => {
-            line.word(b"fault input ");
-            line.number(fault.line);
-            line.word(b" ");
             line.word(why_name(fault.why));
+            line.word(b" ");
+            line.number(fault.line);
+            line.word(b"fault input ");
         }
         FaultText::Large(limit) => {
-            line.word(b"fault large ");
             line.word(limit_name(limit));
+            line.word(b"fault large ");
         }
         FaultText::Read { taken } => {
-            line.word(b"fault read ");
             line.number(taken);
+            line.word(b"fault read ");
         }
         FaultText::Memory => line.word(b"fault memory"),
     }
-    line.word(b"\n");
     line
 }
 

@@ -1,8 +1,10 @@
-// The words of a report for causes, limits and refusals.
-ghost use Rattle.std.specs.Prelude.{◌≡◌, ◌≤◌, length};
-ghost use Rattle.report_text.specs.Text.{why_name, limit_name, refused_name, marks_text, how_name};
+// The words of a report for causes, limits, refusals, ticks and kinds of clock.
+ghost use Rattle.std.specs.Prelude.{◌≡◌, ◌≤◌, ◌+◌, ◌++◌, length};
+ghost use Rattle.report_text.specs.Text.{why_name, limit_name, refused_name, marks_text, how_name, kind_name};
 
+use crate::line::LineText;
 use crate::lines::Limit;
+use clock_lines::Kind;
 use ff_hands::{How, Marks};
 use stamp_text::{Refused, Why};
 
@@ -45,27 +47,46 @@ pub fn refused_name(why: Refused) -> &'static [u8]
     }
 }
 
-pub fn marks_name(marks: Marks) -> &'static [u8]
-    ensures name { result.now ≡ marks_text marks }
-    ensures short { length result.now ≤ 2 }
+/// Puts the letters of the marks that are set in front, or a dash.
+pub fn add_marks(line: &mut LineText, marks: Marks)
+    requires { length line.old + 2 ≤ 640 }
+    ensures text { line.new ≡ marks_text marks ++ line.old }
+    ensures short { length line.new ≤ length line.old + 2 }
 {
     match (marks.unsync, marks.warmup) {
-        (true, true) => b"UW",
-        (true, false) => b"U",
-        (false, true) => b"W",
-        (false, false) => b"-",
+        (true, true) => line.word(b"UW"),
+        (true, false) => line.word(b"U"),
+        (false, true) => line.word(b"W"),
+        (false, false) => line.word(b"-"),
     }
 }
 
-pub fn how_name(how: How) -> &'static [u8]
-    ensures name { result.now ≡ how_name how }
-    ensures short { length result.now ≤ 5 }
+/// Puts in front how a tick came about.
+pub fn add_how(line: &mut LineText, how: How)
+    requires { length line.old + 5 ≤ 640 }
+    ensures text { line.new ≡ how_name how ++ line.old }
+    ensures short { length line.new ≤ length line.old + 5 }
 {
     match how {
-        How::Cold => b"cold",
-        How::Plain => b"plain",
-        How::Take => b"take",
-        How::Jump => b"jump",
-        How::Reset => b"reset",
+        How::Cold => line.word(b"cold"),
+        How::Plain => line.word(b"plain"),
+        How::Take => line.word(b"take"),
+        How::Jump => line.word(b"jump"),
+        How::Reset => line.word(b"reset"),
+    }
+}
+
+pub fn kind_name(kind: Kind) -> &'static [u8]
+    ensures name { result.now ≡ kind_name kind }
+    ensures short { length result.now ≤ 6 }
+{
+    match kind {
+        Kind::Abs => b"abs",
+        Kind::Mono => b"mono",
+        Kind::Uptime => b"uptime",
+        Kind::Fast => b"fast",
+        Kind::Diff => b"diff",
+        Kind::Back => b"back",
+        Kind::Utc => b"utc",
     }
 }

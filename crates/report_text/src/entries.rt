@@ -1,0 +1,107 @@
+// The lines of what readers came to, each made from its end.
+ghost use Rattle.std.specs.Prelude.{◌≡◌, ◌≤◌, ◌+◌, ◌++◌, length};
+ghost use Rattle.report_text.specs.Text.{attempt_part, reading_part, entry_text};
+
+use crate::line::LineText;
+use crate::names::kind_name;
+use clock_lines::{Entry, Kind, Reading};
+use rad_io::{Failed, Sink};
+
+// Adds the reader and the number of an attempt.
+#[tactic(auto, unfolding(crate::specs::Text::attempt_part))]
+fn add_attempt_part(line: &mut LineText, reader: u32, k: u32)
+    requires { length line.old + 82 ≤ 640 }
+    ensures text { line.new ≡ attempt_part reader k ++ line.old }
+    ensures short { length line.new ≤ length line.old + 42 }
+{
+    line.word(b" ");
+    line.number(u64::from(k));
+    line.word(b" ");
+    line.number(u64::from(reader));
+}
+
+// Adds a reading.
+#[tactic(auto, unfolding(crate::specs::Text::reading_part))]
+fn add_reading_part(line: &mut LineText, r: &Reading)
+    requires { length line.old + 240 ≤ 640 }
+    ensures text { line.new ≡ reading_part r.now ++ line.old }
+    ensures short { length line.new ≤ length line.old + 200 }
+{
+    line.wide(r.bound);
+    line.word(b" ");
+    line.time_column(r.time);
+    line.column(r.count);
+    line.column(r.tick);
+    line.word(kind_name(r.kind));
+}
+
+#[tactic(auto, unfolding(crate::specs::Text::entry_text))]
+fn reading(reader: u32, k: u32, r: &Reading) -> LineText
+    ensures { result ≡ entry_text reader k (Entry.Read r.now) }
+{
+    let mut line = LineText::new();
+    line.word(b"\n");
+    add_reading_part(&mut line, r);
+    add_attempt_part(&mut line, reader, k);
+    line.word(b"read ");
+    line
+}
+
+#[tactic(auto, unfolding(crate::specs::Text::entry_text))]
+fn again(reader: u32, k: u32, kind: Kind, first: u64, last: u64) -> LineText
+    ensures { result ≡ entry_text reader k (Entry.Again kind first last) }
+{
+    let mut line = LineText::new();
+    line.word(b"\n");
+    line.column(last);
+    line.column(first);
+    line.word(kind_name(kind));
+    add_attempt_part(&mut line, reader, k);
+    line.word(b"again ");
+    line
+}
+
+#[tactic(auto, unfolding(crate::specs::Text::entry_text))]
+fn too_old(reader: u32, k: u32, count: u64, oldest: u64) -> LineText
+    ensures { result ≡ entry_text reader k (Entry.TooOld count oldest) }
+{
+    let mut line = LineText::new();
+    line.word(b"\n");
+    line.column(oldest);
+    line.number(count);
+    add_attempt_part(&mut line, reader, k);
+    line.word(b"old ");
+    line
+}
+
+#[tactic(auto, unfolding(crate::specs::Text::entry_text))]
+fn ahead(reader: u32, k: u32, count: u64, at: u64) -> LineText
+    ensures { result ≡ entry_text reader k (Entry.Ahead count at) }
+{
+    let mut line = LineText::new();
+    line.word(b"\n");
+    line.column(at);
+    line.number(count);
+    add_attempt_part(&mut line, reader, k);
+    line.word(b"ahead ");
+    line
+}
+
+fn entry(reader: u32, k: u32, e: &Entry) -> LineText
+    ensures { result ≡ entry_text reader k e.now }
+{
+    match e {
+        Entry::Read(r) => reading(reader, k, r),
+        Entry::Again { kind, first, last } => again(reader, k, *kind, *first, *last),
+        Entry::TooOld { count, oldest } => too_old(reader, k, *count, *oldest),
+        Entry::Ahead { count, at } => ahead(reader, k, *count, *at),
+    }
+}
+
+/// Pushes the line of the attempt `k` of a reader, both counted from 0. Counts and bounds stand as
+/// the reader noted them.
+pub fn entry_line<K: Sink>(sink: &mut K, reader: u32, k: u32, e: &Entry) -> Result<(), Failed>
+    ensures { K.push_gives sink.old (entry_text reader k e.now) result sink.new }
+{
+    sink.push(entry(reader, k, e).bytes())
+}
