@@ -3,3 +3,9 @@ pub mod Fits
 pub mod Playing
 pub mod Journals
 pub mod Targets
+pub mod Places
+pub mod Opening
+pub mod Driving
+pub mod Reading
+pub mod Taking
+pub mod Leaving

@@ -1,3 +1,6 @@
 pub mod Plans
 pub mod Fitting
 pub mod Journals
+pub mod Logs
+pub mod Drives
+pub mod Plays

@@ -1,4 +1,4 @@
-// What holds of every plan, and of the journal that it makes.
+// What holds of every plan, of the journal that it makes, and of the logs that are opened for it.
 ghost use Rattle.std.specs.Prelude.{◌≡◌, ◌+◌, ◌-◌, ◌*◌, ◌^◌, ◌<◌, ◌≤◌, Bool, false, true, ℕ, List, [], ◌∷◌, length, map, slice_get, Some};
 ghost use Rattle.std.specs.List.Sorted.{IsNonDecreasingBy};
 ghost use Rattle.stamp_text.specs.Accepted.{AreAccepted};
@@ -10,9 +10,13 @@ ghost use Rattle.ff_hands.specs.declared.estimates.Estimate.{Estimate};
 ghost use Rattle.ff_hands.specs.declared.hands.Hands.{Hands};
 ghost use Rattle.ff_hands.specs.declared.hands.Order.TheVariants as order;
 ghost use Rattle.ff_estimator.specs.Folds.{fold_of, estimates_of};
+ghost use Rattle.atomic_table.specs.Seated.{TableId};
+ghost use Rattle.tick_desk.specs.Shows.{new_passes};
 ghost use Rattle.replay_run.specs.Fitting.{update_after, StepFits, PlanFits};
 ghost use Rattle.replay_run.specs.Journals.{journal_of, greatest, taken_in, IsJournalOf};
+ghost use Rattle.replay_run.specs.Logs.{AreOpened, AreReady};
 ghost use Rattle.replay_run.specs.Plans.{plan_of};
+ghost use Rattle.replay_run.specs.declared.log.ReadLog.{ReadLog};
 ghost use Rattle.replay_run.specs.declared.plan.PlanStep.{PlanStep};
 
 /// The law that a plan has one step for the reset, one for each estimate, and `ticks` between two of
@@ -82,4 +86,13 @@ pub fn journals_are_the_only_ones()
 pub fn journals_take_each_estimate()
     ensures { (beside : Bool) (freq : ℕ) (es : List Estimate) (ticks : ℕ) (journal : List Hands) →
         IsJournalOf beside (plan_of freq es ticks) journal → taken_in (map order_of journal) ≡ es }
+{}
+
+/// The law that new passes are as many as were asked for, and that the logs that are opened over passes
+/// which are new, and the first that were made, are such as a play asks for.
+pub fn new_logs_are_ready()
+    ensures many { (table : TableId) (number seen readers : ℕ) →
+        length (new_passes table number seen readers) ≡ readers }
+    ensures ready { (table : TableId) (seen readers reads : ℕ) (logs : List ReadLog) →
+        AreOpened reads (new_passes table 0 seen readers) logs → AreReady table reads logs }
 {}

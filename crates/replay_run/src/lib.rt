@@ -1,13 +1,21 @@
-//! The plan of a replay: which orders the clock is given, and at which counts.
+//! The plan of a replay, which says which orders the clock is given, and at which counts; and its play, by
+//! a driver, with readers and a crank beside it.
 #![tactic(auto)]
 
+mod driver;
 mod laws;
+mod log;
 mod plan;
+mod players;
+mod reader;
 #[cfg(test)]
 mod tests;
 
 pub use laws::{
-    journals_are_legal, journals_are_the_only_ones, journals_take_each_estimate, plans_fit,
-    plans_take_each_estimate, steps_are_counted, steps_wind, targets_never_fall,
+    journals_are_legal, journals_are_the_only_ones, journals_take_each_estimate,
+    new_logs_are_ready, plans_fit, plans_take_each_estimate, steps_are_counted, steps_wind,
+    targets_never_fall,
 };
+pub use log::ReadLog;
 pub use plan::{Options, Plan, PlanStep};
+pub use players::play;

@@ -1,19 +1,29 @@
-// Plans of what a daemon said of stamps.
-ghost use Rattle.std.specs.Prelude.{◌≡◌, ◌<◌, List, IfOk};
+// Plans of what a daemon said of stamps, and their plays.
+ghost use Rattle.std.specs.Prelude.{◌≡◌, ◌<◌, ◌≤◌, List, [], ◌∷◌, false, length, IfOk};
 ghost use Rattle.stamp_text.specs.Accepted.{IsInRange};
 ghost use Rattle.stamp_text.specs.declared.lines.Stamp.{Stamp};
 ghost use Rattle.ff_estimator.specs.Folds.{AreOf};
+ghost use Rattle.ff_hands.specs.Windups.{cold};
+ghost use Rattle.replay_run.specs.Fitting.{PlanFits};
+ghost use Rattle.replay_run.specs.Logs.{AreReady};
+ghost use Rattle.replay_run.specs.Plans.{AreOptionsInRange};
 
-use crate::{Options, Plan};
+use crate::{Options, Plan, ReadLog, play};
+use clock_lines::{Entry, Kind, Reading};
 use ff_estimator::{Daemon, Fed, Full};
 use ff_grain::{NoMemory, from_nanos};
-use ff_hands::Order;
+use ff_hands::{Hands, Order};
+use rad_io::{Gate, OpenGate};
 use stamp_text::Stamp;
 use std::alloc::Global;
 use std::marker::Brand;
+use std::sync::atomic::{AtomicU64, Ordering};
 use std::sync::ledger::{Blank, Ledger};
 use std::test::Fail;
+use std::thread;
+use std::thread::Threads;
 use step_count::Steps;
+use tick_desk::Desk;
 
 const FREQ: u64 = 1_000_000_000;
 
@@ -60,16 +70,27 @@ fn fulls_under<L: Ledger>(
 }
 
 // The plan to replay it.
-fn plan_of(alloc: Global, rows: &[Columns], ticks: u32) -> Result<Plan, NoMemory> {
-    let options = Options {
+fn plan_of(alloc: Global, rows: &[Columns], options: &Options) -> Result<Plan, NoMemory>
+    requires { AreOptionsInRange options.now }
+    ensures freq { IfOk result (λ p. p.freq ≡ 1000000000) }
+    ensures options { IfOk result (λ p. p.options ≡ options.now) }
+    ensures fits { IfOk result (λ p. PlanFits 0 0 p.steps.items) }
+{
+    let fulls = fulls_under::<Brand>(alloc, rows, Blank::new(1))?;
+    Plan::of(alloc, FREQ, &fulls, options)
+}
+
+// Two readers.
+fn options_of(ticks: u32, reads: u32, back: bool, crank: bool) -> Options
+    ensures { AreOptionsInRange result }
+{
+    Options {
         ticks: ticks.min(15),
         readers: 2,
-        reads: 3,
-        back: true,
-        crank: false,
-    };
-    let fulls = fulls_under::<Brand>(alloc, rows, Blank::new(1))?;
-    Plan::of(alloc, FREQ, &fulls, &options)
+        reads: reads.min(16384),
+        back,
+        crank,
+    }
 }
 
 // What a step does, in a word.
@@ -114,12 +135,234 @@ fn plans_have_their_steps(rt: HostRuntime) -> Result<(), Fail> {
         ),
     ];
     for (stamps, ticks, wanted) in rows {
-        let plan = plan_of(rt.alloc(), stamps, ticks)?;
+        let plan = plan_of(rt.alloc(), stamps, &options_of(ticks, 3, true, false))?;
         assert_eq!(rt; plan.steps.len(), wanted.len());
         for (step, (to, word)) in plan.steps.iter().zip(wanted) {
             assert_eq!(rt; step.to, *to);
             assert_eq!(rt; word_of(step.order), *word);
         }
+    }
+    Ok(())
+}
+
+/// Two stamps, the second 16 s behind the first.
+const TWO: [Columns; 2] = [
+    (1_000_000_000, 1_700_000_000, 1_000_100_000),
+    (17_000_000_000, 1_700_000_016, 17_000_100_000),
+];
+
+// A desk that nothing was done with, with room for the ticks of a plan, and the logs of its readers.
+fn opened(alloc: Global, plan: &Plan) -> Result<(Desk, Vec<ReadLog>), NoMemory>
+    requires { plan.now.options.readers ≤ 16 }
+    ensures journal { IfOk result (λ r. r.0.pen.journal ≡ cold ∷ []) }
+    ensures top { IfOk result (λ r. r.0.pen.top ≡ 0) }
+    ensures still { IfOk result (λ r. r.0.pen.out ≡ false) }
+    ensures spare { IfOk result (λ r. length plan.now.steps.items ≤ r.0.pen.spare) }
+    ensures logs { IfOk result (λ r. AreReady r.0.pen.table plan.now.options.reads r.1.items) }
+{
+    let mut desk = Desk::start(alloc)?;
+    desk.pen.reserve(plan.steps.len())?;
+    desk.passes(alloc, plan.options.readers)?;
+    let logs = ReadLog::all(alloc, &mut desk, plan)?;
+    Ok((desk, logs))
+}
+
+#[test]
+fn logs_are_opened(rt: HostRuntime) -> Result<(), Fail> {
+    let plan = plan_of(rt.alloc(), &TWO, &options_of(1, 40, true, false))?;
+    let (desk, logs) = opened(rt.alloc(), &plan)?;
+    assert_eq!(rt; desk.passes.len(), 0);
+    assert_eq!(rt; logs.len(), 2);
+    for (i, log) in logs.iter().enumerate() {
+        assert_eq!(rt; log.reader, i as u32);
+        assert!(rt; log.entries.is_empty());
+        assert!(rt; log.entries.capacity() >= 40);
+        assert!(rt; log.pass.is_some());
+    }
+    Ok(())
+}
+
+// The desk and the logs behind a play of two stamps.
+fn played<R: Threads + Sync, G: Gate>(
+    rt: &R,
+    alloc: Global,
+    options: &Options,
+    gate: &G,
+) -> Result<(Desk, Vec<ReadLog>), NoMemory>
+    requires { AreOptionsInRange options.now }
+{
+    let plan = plan_of(alloc, &TWO, options)?;
+    let (mut desk, mut logs) = opened(alloc, &plan)?;
+    play(rt, &mut desk, &plan, &mut logs, gate);
+    Ok((desk, logs))
+}
+
+// The kind of an attempt, by what came of it.
+fn kind_of(entry: &Entry) -> Kind {
+    match entry {
+        Entry::Read(r) => r.kind,
+        Entry::Again { kind, .. } => *kind,
+        Entry::TooOld { .. } | Entry::Ahead { .. } => Kind::Back,
+    }
+}
+
+// Whether a reading is by the tick that it names.
+fn is_by_its_tick(journal: &[Hands], r: &Reading) -> bool {
+    let tick = r.tick as usize;
+    let Some(hands) = journal.get(tick) else {
+        return false;
+    };
+    match r.kind {
+        Kind::Fast => r.count == hands.count && r.time == hands.time,
+        Kind::Diff => r.count == FREQ,
+        Kind::Abs | Kind::Mono | Kind::Uptime | Kind::Utc => {
+            let next = tick.saturating_add(1);
+            hands.count <= r.count && journal.get(next).is_none_or(|h| r.count <= h.count)
+        }
+        Kind::Back => hands.count < r.count || tick == 0,
+    }
+}
+
+#[test]
+fn plays_leave_journals_and_logs(rt: HostRuntime) -> Result<(), Fail> {
+    let wanted = [0, 0, 1_000_100_000, 9_000_100_000, 17_000_100_000];
+    let kinds = [
+        Kind::Abs,
+        Kind::Mono,
+        Kind::Uptime,
+        Kind::Fast,
+        Kind::Diff,
+        Kind::Back,
+    ];
+    for (back, crank) in [(false, false), (true, false), (false, true), (true, true)] {
+        let options = options_of(1, 25, back, crank);
+        let (desk, logs) = played(&rt, rt.alloc(), &options, &OpenGate)?;
+        let journal = desk.pen.journal();
+        assert_eq!(rt; journal.len(), wanted.len());
+        for (hands, to) in journal.iter().zip(wanted) {
+            assert!(rt; to <= hands.count && hands.count <= 17_000_100_000);
+            assert!(rt; crank || hands.count == to);
+        }
+        let turn = if back { 6 } else { 5 };
+        assert_eq!(rt; logs.len(), 2);
+        for log in &logs {
+            assert!(rt; log.pass.is_none());
+            assert_eq!(rt; log.entries.len(), 25);
+            for (k, entry) in log.entries.iter().enumerate() {
+                assert!(rt; kinds.get(k % turn) == Some(&kind_of(entry)));
+                if let Entry::Read(r) = entry {
+                    assert!(rt; is_by_its_tick(journal, r));
+                }
+            }
+        }
+    }
+    Ok(())
+}
+
+/// How long a thread waits at most, in turns.
+const PATIENCE: u64 = 100_000_000;
+
+// Holds reader 1 before its first attempt until the driver is about to publish tick 4, and the driver there
+// until that reader has come. Each notes whether the other came.
+#[derive(Drop)]
+struct Meeting {
+    reader: AtomicU64,
+    driver: AtomicU64,
+    missed: AtomicU64,
+}
+
+impl Meeting {
+    fn wait_for(&self, other: &AtomicU64) {
+        for _ in 0..PATIENCE {
+            if other.load(Ordering::SeqCst) == 1 {
+                return;
+            }
+            thread::yield_now();
+        }
+        self.missed.store(1, Ordering::SeqCst);
+    }
+}
+
+impl Gate for Meeting {
+    fn between_reads(&self, reader: u32, done: u32) {
+        if reader == 1 && done == 0 {
+            self.reader.store(1, Ordering::SeqCst);
+            self.wait_for(&self.driver);
+        }
+    }
+
+    fn between_ticks(&self, next: u64) {
+        if next == 4 {
+            self.driver.store(1, Ordering::SeqCst);
+            self.wait_for(&self.reader);
+        }
+    }
+}
+
+#[test]
+fn readers_and_driver_run_at_the_same_time(rt: HostRuntime) -> Result<(), Fail> {
+    let gate = Meeting {
+        reader: AtomicU64::new(0),
+        driver: AtomicU64::new(0),
+        missed: AtomicU64::new(0),
+    };
+    let (desk, logs) = played(&rt, rt.alloc(), &options_of(4, 4, false, false), &gate)?;
+    assert_eq!(rt; gate.missed.load(Ordering::SeqCst), 0);
+    assert_eq!(rt; desk.pen.journal().len(), 8);
+    for log in &logs {
+        assert_eq!(rt; log.entries.len(), 4);
+        for entry in &log.entries {
+            if let Entry::Read(r) = entry {
+                assert!(rt; log.reader != 1 || r.tick >= 3);
+            }
+        }
+    }
+    Ok(())
+}
+
+// Notes whether the driver and two readers come with the numbers that are next, each in its own row.
+#[derive(Drop)]
+struct Counting {
+    step: AtomicU64,
+    done: [AtomicU64; 2],
+    wrong: AtomicU64,
+}
+
+impl Counting {
+    fn note(&self, next: &AtomicU64, number: u64) {
+        if next.load(Ordering::SeqCst) != number {
+            self.wrong.store(1, Ordering::SeqCst);
+        }
+        next.store(number.saturating_add(1), Ordering::SeqCst);
+    }
+}
+
+impl Gate for Counting {
+    fn between_reads(&self, reader: u32, done: u32) {
+        match self.done.get(reader as usize) {
+            Some(next) => self.note(next, u64::from(done)),
+            None => self.wrong.store(1, Ordering::SeqCst),
+        }
+    }
+
+    fn between_ticks(&self, next: u64) {
+        self.note(&self.step, next);
+    }
+}
+
+#[test]
+fn the_gate_is_called_once_before_each_step_and_attempt(rt: HostRuntime) -> Result<(), Fail> {
+    let gate = Counting {
+        step: AtomicU64::new(1),
+        done: [AtomicU64::new(0), AtomicU64::new(0)],
+        wrong: AtomicU64::new(0),
+    };
+    let (desk, _) = played(&rt, rt.alloc(), &options_of(4, 25, true, true), &gate)?;
+    assert_eq!(rt; desk.pen.journal().len(), 8);
+    assert_eq!(rt; gate.wrong.load(Ordering::SeqCst), 0);
+    assert_eq!(rt; gate.step.load(Ordering::SeqCst), 8);
+    for done in &gate.done {
+        assert_eq!(rt; done.load(Ordering::SeqCst), 25);
     }
     Ok(())
 }

@@ -1,0 +1,98 @@
+// A reader.
+ghost use Rattle.std.specs.Prelude.{◌≡◌, ◌<◌, ◌^◌};
+ghost use Rattle.clock_logs.specs.Attempts.{kind_at, latest_with};
+ghost use Rattle.tick_desk.specs.Answers.{Adds, entry_by, entry_from};
+ghost use Rattle.replay_run.specs.Logs.{IsReady, HasRun, ask_for};
+
+use crate::log::ReadLog;
+use clock_lines::{Entry, Kind};
+use rad_io::Gate;
+use tick_desk::{Answer, Converted, Pass};
+
+// The kind of an attempt.
+fn kind_at(back: bool, k: u32) -> Kind
+    ensures { result ≡ kind_at back k }
+{
+    match k % if back { 6 } else { 5 } {
+        0 => Kind::Abs,
+        1 => Kind::Mono,
+        2 => Kind::Uptime,
+        3 => Kind::Fast,
+        4 => Kind::Diff,
+        _ => Kind::Back,
+    }
+}
+
+// The count of the latest reading of the absolute clock, with one entry more.
+fn latest_with(latest: u64, e: &Entry) -> u64
+    ensures { result ≡ latest_with latest e.now }
+{
+    match e {
+        Entry::Read(r) => match r.kind {
+            Kind::Abs => r.count,
+            Kind::Mono | Kind::Uptime | Kind::Utc | Kind::Fast | Kind::Diff | Kind::Back => latest,
+        },
+        Entry::Again { .. } | Entry::TooOld { .. } | Entry::Ahead { .. } => latest,
+    }
+}
+
+// The entry of a read.
+fn entry_by(kind: Kind, answer: Answer) -> Entry
+    ensures { result ≡ entry_by kind answer }
+{
+    match answer {
+        Answer::Read(r) => Entry::Read(r),
+        Answer::Again { first, last } => Entry::Again { kind, first, last },
+    }
+}
+
+// The entry of a conversion of a past count.
+fn entry_from(count: u64, converted: Converted) -> Entry
+    ensures { result ≡ entry_from count converted }
+{
+    match converted {
+        Converted::Read(r) => Entry::Read(r),
+        Converted::TooOld { oldest } => Entry::TooOld { count, oldest },
+        Converted::Ahead { count: at } => Entry::Ahead { count, at },
+        Converted::Again { first, last } => Entry::Again {
+            kind: Kind::Back,
+            first,
+            last,
+        },
+    }
+}
+
+// Makes one attempt.
+fn attempt(pass: &mut Pass, kind: Kind, freq: u64, latest: u64) -> Entry
+    requires freq { freq < 2 ^ 62 }
+    requires latest { latest < 2 ^ 62 }
+    ensures { Adds pass.old pass.new (ask_for freq latest kind) result }
+{
+    match kind {
+        Kind::Abs | Kind::Mono | Kind::Uptime | Kind::Utc | Kind::Fast => {
+            entry_by(kind, pass.read(kind))
+        }
+        Kind::Diff => entry_by(kind, pass.diff(freq)),
+        Kind::Back => entry_from(latest, pass.convert(latest)),
+    }
+}
+
+// Makes all attempts of a reader, one after the other.
+pub(crate) fn read_all<G: Gate>(gate: &G, log: &mut ReadLog, freq: u64, back: bool, reads: u32)
+    requires freq { freq < 2 ^ 62 }
+    requires ready { IsReady reads log.old }
+    ensures { HasRun freq back reads log.old log.new }
+{
+    let reader = log.reader;
+    let Some(mut pass) = log.pass.take() else {
+        unreachable!()
+    };
+    let mut latest = 0;
+    for k in 0..reads {
+        gate.between_reads(reader, k);
+        let entry = attempt(&mut pass, kind_at(back, k), freq, latest);
+        latest = latest_with(latest, &entry);
+        log.entries.push_reserved(entry);
+    }
+    log.pass = Some(pass);
+}
