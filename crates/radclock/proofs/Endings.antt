@@ -5,7 +5,7 @@ use Rattle.std.specs.Option.{option_map}
 use Rattle.std.specs.Io.KnownBytes.{Appends, Consumes, IsAtEnd}
 use Rattle.rad_io.specs.Blocks.{Gathering, IsFresh, BlockGives, Closes}
 use Rattle.rad_io.specs.Causes.{Rose}
-use Rattle.rad_io.specs.Pushes.{Wrote, Broke, Writes}
+use Rattle.rad_io.specs.Pushes.{Writes}
 use Rattle.rad_io.specs.declared.Failed.{Failed}
 use Rattle.rad_io.proofs.InBlocks.{wrote-in-blocks, broke-in-blocks}
 use Rattle.stamp_text.specs.Grammar.{given_of_file, fault_of_file}
@@ -14,9 +14,11 @@ use Rattle.report_text.specs.declared.lines.Limit.TheVariants as limit
 use Rattle.clock_words.specs.Lines.{command_in}
 use Rattle.clock_words.specs.declared.commands.Command.TheVariants as command
 use Rattle.clock_words.specs.declared.commands.Report.{Report}
+use Rattle.tick_desk.specs.declared.desk.Desk.{Desk}
+use Rattle.replay_run.specs.declared.plan.Options.{Options}
 use Rattle.radclock.specs.Inputs.{stamps_in, takes_few, accepted_among, accepts_many, stop_by, first_stop, stop_of_file, freq_of_file, stamps_of_file}
 use Rattle.radclock.specs.Readings.{StopsInPiece, StopsAtEnd, Stops}
-use Rattle.radclock.specs.Runs.{Comes, no_line, no_memory, made, stopped, read, EndsWith, Ends, EndsInBlocks, WasDone, reported, filed, WasFree}
+use Rattle.radclock.specs.Runs.{Comes, no_line, no_memory, made, stopped, read, EndsWith, Ends, EndsInBlocks, LeavesAt, WasDone, WasRead, reported, filed, replay_by, Headline, MakesNone, WasFree}
 use Rattle.radclock.specs.Statuses.{status_of, status_by}
 use Rattle.radclock.specs.declared.inputs.Stop.{Stop}
 use Rattle.radclock.specs.declared.inputs.Stop.TheVariants as stop
@@ -56,55 +58,55 @@ stops-by-input limited left faults pull old new (stop.Fault f) all told free sto
 stops-by-input limited left faults pull old new (stop.Large l) all told free stops = inl (ap status_by (sym (in-piece-stops limited left faults pull old new (stop.Large l) all told stops)))
 
 -- what is due of a report, with no fault counted
-due-by-input : {S : Type 0} (left : S → Option (List ℕ)) (faults : S → ℕ) (pull : S → List ℕ → Result ℕ Failed → List ℕ → S → Type 0) (words : List (List ℕ)) (old new : S) (due : Status) (lines : List (List ℕ)) (asked : Report) (all : List ℕ) → command_in words ≡ Some (command.Report asked) → left old ≡ Some all → WasFree (faults old) (faults new) → Comes left faults pull words old new due lines → (due ≡ status_by (stop_of_file (takes_few asked) all)) ⊎ (due ≡ status.NoMemory)
-due-by-input left faults pull words old new due lines asked all line told free (no_line none same) = absurd (cc)
-due-by-input left faults pull words old new due lines asked all line told free (no_memory same) = inr refl
-due-by-input left faults pull words old new due lines asked all line told free (made number count is same) = absurd (cc)
-due-by-input left faults pull words old new due lines asked all line told free (stopped r is s stops) =
+due-by-input : {S : Type 0} (left : S → Option (List ℕ)) (faults : S → ℕ) (pull : S → List ℕ → Result ℕ Failed → List ℕ → S → Type 0) (words : List (List ℕ)) (old new : S) (desk desk' : Desk) (due : Status) (lines : List (List ℕ)) (asked : Report) (all : List ℕ) → command_in words ≡ Some (command.Report asked) → left old ≡ Some all → WasFree (faults old) (faults new) → Comes left faults pull words old new desk desk' due lines → (due ≡ status_by (stop_of_file (takes_few asked) all)) ⊎ (due ≡ status.NoMemory)
+due-by-input left faults pull words old new desk desk' due lines asked all line told free (no_line none same stays) = absurd (cc)
+due-by-input left faults pull words old new desk desk' due lines asked all line told free (no_memory same stays) = inr refl
+due-by-input left faults pull words old new desk desk' due lines asked all line told free (made number count is same stays) = absurd (cc)
+due-by-input left faults pull words old new desk desk' due lines asked all line told free (stopped r is s stops leaves) =
     let same : r ≡ asked = cc in
     stops-by-input (takes_few asked) left faults pull old new s all told free (subst (λ r. Stops (takes_few r) left faults pull old s new) same stops)
-due-by-input left faults pull words old new due lines asked all line told free (read r is text reached sound) =
+due-by-input left faults pull words old new desk desk' due lines asked all line told free (read r is text reached sound leaves) =
     let same : r ≡ asked = cc in
     inl (sym (ap (λ r. status_by (stop_of_file (takes_few r) all)) (sym same) ∙ ap status_by (ap (stop_of_file (takes_few r)) (taken-whole (left old) (left new) text all told reached.bytes reached.ended) ∙ sound)))
 
 -- what is due of a made file
-due-made : {S : Type 0} (left : S → Option (List ℕ)) (faults : S → ℕ) (pull : S → List ℕ → Result ℕ Failed → List ℕ → S → Type 0) (words : List (List ℕ)) (old new : S) (due : Status) (lines : List (List ℕ)) (number count : ℕ) → command_in words ≡ Some (command.Make number count) → Comes left faults pull words old new due lines → (due ≡ status.Done) ⊎ (due ≡ status.NoMemory)
-due-made left faults pull words old new due lines number count line (no_line none same) = absurd (cc)
-due-made left faults pull words old new due lines number count line (no_memory same) = inr refl
-due-made left faults pull words old new due lines number count line (made n c is same) = inl refl
-due-made left faults pull words old new due lines number count line (stopped r is s stops) = absurd (cc)
-due-made left faults pull words old new due lines number count line (read r is text reached sound) = absurd (cc)
+due-made : {S : Type 0} (left : S → Option (List ℕ)) (faults : S → ℕ) (pull : S → List ℕ → Result ℕ Failed → List ℕ → S → Type 0) (words : List (List ℕ)) (old new : S) (desk desk' : Desk) (due : Status) (lines : List (List ℕ)) (number count : ℕ) → command_in words ≡ Some (command.Make number count) → Comes left faults pull words old new desk desk' due lines → (due ≡ status.Done) ⊎ (due ≡ status.NoMemory)
+due-made left faults pull words old new desk desk' due lines number count line (no_line none same stays) = absurd (cc)
+due-made left faults pull words old new desk desk' due lines number count line (no_memory same stays) = inr refl
+due-made left faults pull words old new desk desk' due lines number count line (made n c is same stays) = inl refl
+due-made left faults pull words old new desk desk' due lines number count line (stopped r is s stops leaves) = absurd (cc)
+due-made left faults pull words old new desk desk' due lines number count line (read r is text reached sound leaves) = absurd (cc)
 
 -- what is due where the words are no line
-due-none : {S : Type 0} (left : S → Option (List ℕ)) (faults : S → ℕ) (pull : S → List ℕ → Result ℕ Failed → List ℕ → S → Type 0) (words : List (List ℕ)) (old new : S) (due : Status) (lines : List (List ℕ)) → command_in words ≡ None → Comes left faults pull words old new due lines → (due ≡ status.Usage) ⊎ (due ≡ status.NoMemory)
-due-none left faults pull words old new due lines line (no_line none same) = inl refl
-due-none left faults pull words old new due lines line (no_memory same) = inr refl
-due-none left faults pull words old new due lines line (made n c is same) = absurd (cc)
-due-none left faults pull words old new due lines line (stopped r is s stops) = absurd (cc)
-due-none left faults pull words old new due lines line (read r is text reached sound) = absurd (cc)
+due-none : {S : Type 0} (left : S → Option (List ℕ)) (faults : S → ℕ) (pull : S → List ℕ → Result ℕ Failed → List ℕ → S → Type 0) (words : List (List ℕ)) (old new : S) (desk desk' : Desk) (due : Status) (lines : List (List ℕ)) → command_in words ≡ None → Comes left faults pull words old new desk desk' due lines → (due ≡ status.Usage) ⊎ (due ≡ status.NoMemory)
+due-none left faults pull words old new desk desk' due lines line (no_line none same stays) = inl refl
+due-none left faults pull words old new desk desk' due lines line (no_memory same stays) = inr refl
+due-none left faults pull words old new desk desk' due lines line (made n c is same stays) = absurd (cc)
+due-none left faults pull words old new desk desk' due lines line (stopped r is s stops leaves) = absurd (cc)
+due-none left faults pull words old new desk desk' due lines line (read r is text reached sound leaves) = absurd (cc)
 
-module _ {S K : Type 0} (left : S → Option (List ℕ)) (pull_faults : S → ℕ) (pull : S → List ℕ → Result ℕ Failed → List ℕ → S → Type 0) (written : K → Option (List ℕ)) (push_faults : K → ℕ) (push : K → List ℕ → Result (Unit {0}) Failed → K → Type 0) (words : List (List ℕ)) (source source' : S) (sink sink' : K) (result : Status) (ends : Ends left pull_faults pull written push_faults push words source source' sink sink' result) where
+module _ {S K : Type 0} (left : S → Option (List ℕ)) (pull_faults : S → ℕ) (pull : S → List ℕ → Result ℕ Failed → List ℕ → S → Type 0) (written : K → Option (List ℕ)) (push_faults : K → ℕ) (push : K → List ℕ → Result (Unit {0}) Failed → K → Type 0) (words : List (List ℕ)) (source source' : S) (sink sink' : K) (desk desk' : Desk) (due result : Status) (lines pieces : List (List ℕ)) (comes : Comes left pull_faults pull words source source' desk desk' due lines) (ends : EndsWith written push_faults push sink pieces due result sink') where
   -- a run ends as is due, or a push failed
-  by-due : (X : Status) → (ends.due ≡ X) ⊎ (ends.due ≡ status.NoMemory) → WasFree (push_faults sink) (push_faults sink') → (result ≡ X) ⊎ (result ≡ status.NoMemory)
-  by-due X due free =
-      elim ends.ends [
-        | inl whole ↦ elim due [ inl is ↦ inl (whole.0 ∙ is) | inr memory ↦ inr (whole.0 ∙ memory) ]
+  by-due : (X : Status) → (due ≡ X) ⊎ (due ≡ status.NoMemory) → WasFree (push_faults sink) (push_faults sink') → (result ≡ X) ⊎ (result ≡ status.NoMemory)
+  by-due X is_due free =
+      elim ends [
+        | inl whole ↦ elim is_due [ inl is ↦ inl (whole.0 ∙ is) | inr memory ↦ inr (whole.0 ∙ memory) ]
         | inr broken ↦ absurd (not-rose (push_faults sink) (push_faults sink') free broken.1.rose)
       ]
 
   -- a run that no count of faults tells of ends as its input says, or for want of memory
   pub complete-by : (asked : Report) (all : List ℕ) → command_in words ≡ Some (command.Report asked) → left source ≡ Some all → WasFree (pull_faults source) (pull_faults source') → WasFree (push_faults sink) (push_faults sink') → (result ≡ status_by (stop_of_file (takes_few asked) all)) ⊎ (result ≡ status.NoMemory)
-  complete-by asked all line told free_source free_sink = by-due _ (due-by-input left pull_faults pull words source source' ends.due ends.lines asked all line told free_source ends.comes) free_sink
+  complete-by asked all line told free_source free_sink = by-due _ (due-by-input left pull_faults pull words source source' desk desk' due lines asked all line told free_source comes) free_sink
 
   -- and one that makes a file is done
   pub made-by : (number count : ℕ) → command_in words ≡ Some (command.Make number count) → WasFree (push_faults sink) (push_faults sink') → (result ≡ status.Done) ⊎ (result ≡ status.NoMemory)
-  made-by number count line free = by-due _ (due-made left pull_faults pull words source source' ends.due ends.lines number count line ends.comes) free
+  made-by number count line free = by-due _ (due-made left pull_faults pull words source source' desk desk' due lines number count line comes) free
 
   -- words that are no line are told, but for want of memory
   pub usage-by : command_in words ≡ None → (result ≡ status.Usage) ⊎ ((result ≡ status.WriteFault) ⊎ (result ≡ status.NoMemory))
   usage-by line =
-      elim ends.ends [
-        | inl whole ↦ elim (due-none left pull_faults pull words source source' ends.due ends.lines line ends.comes) [ inl is ↦ inl (whole.0 ∙ is) | inr memory ↦ inr (inr (whole.0 ∙ memory)) ]
+      elim ends [
+        | inl whole ↦ elim (due-none left pull_faults pull words source source' desk desk' due lines line comes) [ inl is ↦ inl (whole.0 ∙ is) | inr memory ↦ inr (inr (whole.0 ∙ memory)) ]
         | inr broken ↦ inr (inl broken.0)
       ]
 
@@ -149,24 +151,24 @@ is-sound limited text none =
     (λ long. absurd (first-of-some _ (stop.Large limit.Bytes) (sym (stop_so_far-long limited text long) ∙ sym (stop_of_file-long limited text long) ∙ none)))
 
 -- what a done run read and wrote
-done-of : {S : Type 0} (left : S → Option (List ℕ)) (faults : S → ℕ) (pull : S → List ℕ → Result ℕ Failed → List ℕ → S → Type 0) (words : List (List ℕ)) (old new : S) (written written' : Option (List ℕ)) (due : Status) (lines : List (List ℕ)) → Comes left faults pull words old new due lines → due ≡ status.Done → Appends written written' (concat lines) → WasDone (left old) (left new) written written' words
-done-of left faults pull words old new written written' due lines (no_line none same) is wrote = absurd (cc)
-done-of left faults pull words old new written written' due lines (no_memory same) is wrote = absurd (cc)
-done-of left faults pull words old new written written' due lines (made number count line same) is wrote = filed number count line (ap left same) wrote
-done-of left faults pull words old new written written' due lines (stopped r line s stops) is wrote = absurd (not-done s is)
-done-of left faults pull words old new written written' due lines (read r line text reached sound) is wrote =
+done-of : {S : Type 0} (left : S → Option (List ℕ)) (faults : S → ℕ) (pull : S → List ℕ → Result ℕ Failed → List ℕ → S → Type 0) (words : List (List ℕ)) (old new : S) (desk desk' : Desk) (written written' : Option (List ℕ)) (due : Status) (lines : List (List ℕ)) → Comes left faults pull words old new desk desk' due lines → due ≡ status.Done → Appends written written' (concat lines) → WasDone (left old) (left new) written written' desk desk' words
+done-of left faults pull words old new desk desk' written written' due lines (no_line none same stays) is wrote = absurd (cc)
+done-of left faults pull words old new desk desk' written written' due lines (no_memory same stays) is wrote = absurd (cc)
+done-of left faults pull words old new desk desk' written written' due lines (made number count line same stays) is wrote = filed number count line (ap left same) stays wrote
+done-of left faults pull words old new desk desk' written written' due lines (stopped r line s stops leaves) is wrote = absurd (not-done s is)
+done-of left faults pull words old new desk desk' written written' due lines (read r line text reached sound leaves) is wrote =
     let within = is-sound (takes_few r) text sound in
-    reported r line (record { text = text; bytes = reached.bytes; ended = reached.ended; sound = within.sound; few_bytes = within.few_bytes; few_stamps = within.few_stamps; few_accepted = within.few_accepted; wrote = wrote })
+    reported r line (record { text = text; bytes = reached.bytes; ended = reached.ended; sound = within.sound; few_bytes = within.few_bytes; few_stamps = within.few_stamps; few_accepted = within.few_accepted; leaves = leaves; wrote = wrote })
 
-pub done-by : {S K : Type 0} (left : S → Option (List ℕ)) (pull_faults : S → ℕ) (pull : S → List ℕ → Result ℕ Failed → List ℕ → S → Type 0) (written : K → Option (List ℕ)) (push_faults : K → ℕ) (push : K → List ℕ → Result (Unit {0}) Failed → K → Type 0) (words : List (List ℕ)) (source source' : S) (sink sink' : K) (result : Status)
-    → Ends left pull_faults pull written push_faults push words source source' sink sink' result → result ≡ status.Done → WasDone (left source) (left source') (written sink) (written sink') words
-done-by left pull_faults pull written push_faults push words source source' sink sink' result ends is =
+pub done-by : {S K : Type 0} (left : S → Option (List ℕ)) (pull_faults : S → ℕ) (pull : S → List ℕ → Result ℕ Failed → List ℕ → S → Type 0) (written : K → Option (List ℕ)) (push_faults : K → ℕ) (push : K → List ℕ → Result (Unit {0}) Failed → K → Type 0) (words : List (List ℕ)) (source source' : S) (sink sink' : K) (desk desk' : Desk) (result : Status)
+    → Ends left pull_faults pull written push_faults push words source source' sink sink' desk desk' result → result ≡ status.Done → WasDone (left source) (left source') (written sink) (written sink') desk desk' words
+done-by left pull_faults pull written push_faults push words source source' sink sink' desk desk' result ends is =
     elim ends.ends [
-      | inl whole ↦ done-of left pull_faults pull words source source' (written sink) (written sink') ends.due ends.lines ends.comes (sym whole.0 ∙ is) whole.1.bytes
+      | inl whole ↦ done-of left pull_faults pull words source source' desk desk' (written sink) (written sink') ends.due ends.lines ends.comes (sym whole.0 ∙ is) whole.1.bytes
       | inr broken ↦ let not = broken.0 in absurd (cc)
     ]
 
-module _ {S K : Type 0} (left : S → Option (List ℕ)) (pull_faults : S → ℕ) (pull : S → List ℕ → Result ℕ Failed → List ℕ → S → Type 0) (written : K → Option (List ℕ)) (push_faults : K → ℕ) (push : K → List ℕ → Result (Unit {0}) Failed → K → Type 0) (words : List (List ℕ)) (source source' : S) (sink sink' : K) (result : Status) where
+module _ {S K : Type 0} (left : S → Option (List ℕ)) (pull_faults : S → ℕ) (pull : S → List ℕ → Result ℕ Failed → List ℕ → S → Type 0) (written : K → Option (List ℕ)) (push_faults : K → ℕ) (push : K → List ℕ → Result (Unit {0}) Failed → K → Type 0) (words : List (List ℕ)) (source source' : S) (sink sink' : K) (desk desk' : Desk) (result : Status) where
   -- what is pushed in blocks ends as what is pushed line by line
   blocks-end : (blocks : List (List ℕ)) (due ended : Status) (last : Result (Unit {0}) Failed) → OnOk last (result ≡ ended) → OnErr last (result ≡ status.WriteFault) → ended ≡ due → Writes written push_faults push sink blocks last sink' → EndsWith written push_faults push sink blocks due result sink'
   blocks-end blocks due ended (Ok o) ok err is wrote = inl (ok ∙ is, wrote)
@@ -177,8 +179,8 @@ module _ {S K : Type 0} (left : S → Option (List ℕ)) (pull_faults : S → �
   broken-end ended (Err e) ok err is = err
 
   pub ends-in-blocks : (told : Gathering K → Option (List ℕ)) (counted : Gathering K → ℕ) (old mid : Gathering K) (ended : Status) (last : Result (Unit {0}) Failed) → IsFresh sink old
-      → Ends left pull_faults pull told counted (BlockGives written push_faults push) words source source' old mid ended → Closes written push_faults push mid last sink' → OnOk last (result ≡ ended) → OnErr last (result ≡ status.WriteFault)
-      → EndsInBlocks left pull_faults pull written push_faults push words source source' sink sink' result
+      → Ends left pull_faults pull told counted (BlockGives written push_faults push) words source source' old mid desk desk' ended → Closes written push_faults push mid last sink' → OnOk last (result ≡ ended) → OnErr last (result ≡ status.WriteFault)
+      → EndsInBlocks left pull_faults pull written push_faults push words source source' sink sink' desk desk' result
   ends-in-blocks told counted old mid ended last fresh ends closes ok err =
       elim ends.ends [
         | inl whole ↦
@@ -189,9 +191,40 @@ module _ {S K : Type 0} (left : S → Option (List ℕ)) (pull_faults : S → �
             record { due = ends.due; lines = ends.lines; comes = ends.comes; blocks = in_blocks.blocks; bytes = in_blocks.bytes; ends = inr (broken-end ended last ok err broken.0, in_blocks.writes) }
       ]
 
-  pub done-in-blocks : EndsInBlocks left pull_faults pull written push_faults push words source source' sink sink' result → result ≡ status.Done → WasDone (left source) (left source') (written sink) (written sink') words
+  pub done-in-blocks : EndsInBlocks left pull_faults pull written push_faults push words source source' sink sink' desk desk' result → result ≡ status.Done → WasDone (left source) (left source') (written sink) (written sink') desk desk' words
   done-in-blocks ends is =
       elim ends.ends [
-        | inl whole ↦ done-of left pull_faults pull words source source' (written sink) (written sink') ends.due ends.lines ends.comes (sym whole.0 ∙ is) (subst (Appends (written sink) (written sink')) ends.bytes whole.1.bytes)
+        | inl whole ↦ done-of left pull_faults pull words source source' desk desk' (written sink) (written sink') ends.due ends.lines ends.comes (sym whole.0 ∙ is) (subst (Appends (written sink) (written sink')) ends.bytes whole.1.bytes)
         | inr broken ↦ let not = broken.0 in absurd (cc)
       ]
+
+-- a stop leaves the journal
+stop-leaves : (s : Stop) (desk desk' : Desk) → LeavesAt s desk desk' → desk'.pen.journal ≡ desk.pen.journal
+stop-leaves stop.Memory desk desk' leaves = leaves
+stop-leaves (stop.Read taken) desk desk' leaves = ap (λ (d : Desk). d.pen.journal) leaves
+stop-leaves (stop.Fault f) desk desk' leaves = ap (λ (d : Desk). d.pen.journal) leaves
+stop-leaves (stop.Large l) desk desk' leaves = ap (λ (d : Desk). d.pen.journal) leaves
+
+-- where a fault is due, no tick was made
+none-of : {S : Type 0} (left : S → Option (List ℕ)) (faults : S → ℕ) (pull : S → List ℕ → Result ℕ Failed → List ℕ → S → Type 0) (words : List (List ℕ)) (old new : S) (desk desk' : Desk) (due : Status) (lines : List (List ℕ)) → Comes left faults pull words old new desk desk' due lines → MakesNone due → desk'.pen.journal ≡ desk.pen.journal
+none-of left faults pull words old new desk desk' due lines (no_line none same stays) not = ap (λ (d : Desk). d.pen.journal) stays
+none-of left faults pull words old new desk desk' due lines (no_memory same stays) not = ap (λ (d : Desk). d.pen.journal) stays
+none-of left faults pull words old new desk desk' due lines (made number count line same stays) not = absurd not
+none-of left faults pull words old new desk desk' due lines (stopped r line s stops leaves) not = stop-leaves s desk desk' leaves
+none-of left faults pull words old new desk desk' due lines (read r line text reached sound leaves) not = absurd not
+
+pub none-by : {S K : Type 0} (left : S → Option (List ℕ)) (faults : S → ℕ) (pull : S → List ℕ → Result ℕ Failed → List ℕ → S → Type 0) (written : K → Option (List ℕ)) (push_faults : K → ℕ) (push : K → List ℕ → Result (Unit {0}) Failed → K → Type 0) (words : List (List ℕ)) (source source' : S) (sink sink' : K) (desk desk' : Desk) (due result : Status) (lines pieces : List (List ℕ))
+    → Comes left faults pull words source source' desk desk' due lines → EndsWith written push_faults push sink pieces due result sink' → MakesNone result → desk'.pen.journal ≡ desk.pen.journal
+none-by left faults pull written push_faults push words source source' sink sink' desk desk' due result lines pieces comes ends none =
+    elim ends [
+      | inl whole ↦ none-of left faults pull words source source' desk desk' due lines comes (subst MakesNone whole.0 none)
+      | inr broken ↦ absurd (subst MakesNone broken.0 none)
+    ]
+
+-- what a done replay printed and left
+pub headline-of : (left left' written written' : Option (List ℕ)) (desk desk' : Desk) (words : List (List ℕ)) (o : Options) → command_in words ≡ Some (command.Report (replay_by o)) → WasDone left left' written written' desk desk' words → Headline left left' written written' o desk'.pen
+headline-of left left' written written' desk desk' words o line (reported r is was) =
+    let same : r ≡ replay_by o = cc in
+    let done : WasRead left left' written written' desk desk' (replay_by o) = subst (WasRead left left' written written' desk desk') same was in
+    record { text = done.text; bytes = done.bytes; ended = done.ended; sound = done.sound; printed = done.wrote; replayed = done.leaves }
+headline-of left left' written written' desk desk' words o line (filed number count is same stays wrote) = absurd (cc)

@@ -8,7 +8,8 @@ pub mod Progress
 pub mod Endings
 pub mod Fulls
 pub mod Counted
-pub mod Ticking
+pub mod Listing
+pub mod Replaying
 pub mod Filing
 pub mod Playing
 pub mod Told

@@ -1,5 +1,5 @@
 -- A report by stamps, whose lines are told one by one, is that by the lists of all that is told.
-use Rattle.std.proofs.Common.{◌≡◌, ℕ, ◌+◌, ◌<◌, List, [], ◌∷◌, ◌++◌, Option, None, Some, Result, Ok, Err, OnOk, is_ok, length, slice_get, map, get_or, refl, sym, ap, ap₂, ◌∙◌, arith, append_assoc, append-nil, length-append, if◌then◌else◌}
+use Rattle.std.proofs.Common.{◌≡◌, ℕ, ◌+◌, ◌<◌, List, [], ◌∷◌, ◌++◌, None, Some, Result, Ok, Err, OnOk, is_ok, length, slice_get, map, refl, sym, ap, ap₂, ◌∙◌, arith, append_assoc, append-nil, length-append, if◌then◌else◌}
 use Rattle.std.specs.List.{range_with_len}
 use Rattle.std.specs.Option.{option_map_or}
 use Rattle.std.proofs.Math.Seq.{get_or-append_seam}
@@ -14,13 +14,16 @@ use Rattle.rtt_window.proofs.Prefixes.{base_at-append}
 use Rattle.ff_estimator.specs.Estimates.{full_at}
 use Rattle.ff_estimator.specs.Folds.{fold_of}
 use Rattle.ff_estimator.proofs.Prefixes.{full_at-append}
+use Rattle.ff_hands.specs.declared.hands.Hands.{Hands}
+use Rattle.clock_lines.specs.declared.readings.Entry.{Entry}
+use Rattle.replay_run.specs.declared.plan.Options.{Options}
 use Rattle.report_text.specs.Text.{head_text, end_text, stamp_text, base_text, estimate_text, refused_text}
 use Rattle.report_text.specs.declared.lines.ReportHead.{ReportHead}
 use Rattle.report_text.specs.declared.lines.ReportHead.TheVariants as head
 use Rattle.radclock.specs.declared.inputs.StampLine.{StampLine}
 use Rattle.radclock.specs.Inputs.{accepted_among}
-use Rattle.radclock.specs.Reports.{Outcome, outcome_of, outcomes, end_counts, line_by, lines_of, of_nth, stamp_report, stamps_report, rtt_report, estimate_report, bases_of}
-use Rattle.radclock.specs.Tellings.{told_of, told, report, stamps_says, rtt_says, estimate_says}
+use Rattle.radclock.specs.Reports.{Outcome, outcomes, end_counts, line_by, lines_of, of_nth, stamp_report, stamps_report, rtt_report, estimate_report, bases_of, tick_lines, log_lines, replay_head, replay_counts, replay_report}
+use Rattle.radclock.specs.Tellings.{told_of, told, report, replay_told, stamps_says, rtt_says, estimate_says}
 
 -- one more stamp, accepted or not, and further ones
 starts-with : (a : List Stamp) (s : Stamp) (r : Result (Unit {0}) Refused) (more ys : List Stamp) → ys ≡ accepted_with a s r ++ more → (rest : List Stamp) × (ys ≡ a ++ rest)
@@ -111,3 +114,11 @@ pub estimate-by-list : (freq : ℕ) (xs : List StampLine) → report (head.Estim
 estimate-by-list freq xs =
     let all = accepted_among freq [] xs in
     report-lines (head.Estimate freq) (estimate_says freq) (λ n s. of_nth (estimate_text n) (fold_of freq all) n) freq xs (λ front s rest is. sym (of-nth (estimate_text (length front)) (fold_of freq all) (length front) _ (full-at freq all front s rest is)))
+
+pub replay-by-list : (freq : ℕ) (o : Options) (xs : List StampLine) (ticks : List Hands) (logs : List (List Entry)) → replay_told (replay_head freq o) (estimate_says freq) (outcomes freq [] xs) ticks logs ≡ replay_report freq o (outcomes freq [] xs) (fold_of freq (accepted_among freq [] xs)) ticks logs
+unfolding replay_told replay_report
+replay-by-list freq o xs ticks logs =
+    let all = accepted_among freq [] xs in
+    let q = outcomes freq [] xs in
+    let told = told-lines (estimate_says freq) (λ n s. of_nth (estimate_text n) (fold_of freq all) n) freq [] xs (λ front s rest is. sym (of-nth (estimate_text (length front)) (fold_of freq all) (length front) _ (full-at freq all front s rest is))) in
+    ap (λ (ls : List (List ℕ)). (((head_text (replay_head freq o) ∷ ls) ++ tick_lines 0 ticks) ++ log_lines 0 logs) ++ end_text (replay_counts q ticks logs) ∷ []) told

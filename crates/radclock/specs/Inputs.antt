@@ -28,12 +28,13 @@ most_stamps = 65536
 abbrev pub most_accepted : ℕ
 most_accepted = 16384
 
--- a report takes only so many accepted stamps: one on ticks keeps them all in memory
+-- a report takes only so many accepted stamps: one on ticks, or on a replay, keeps them all in memory
 abbrev pub takes_few : Report → Bool
 takes_few report.Stamps = false
 takes_few report.Rtt = false
 takes_few report.Estimate = false
 takes_few (report.Ticks ticks) = true
+takes_few (report.Replay ticks readers reads back crank) = true
 
 -- the stamps among lines, each with the number of its line
 abbrev pub stamps_in : List Line → List StampLine

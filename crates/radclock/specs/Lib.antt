@@ -1,5 +1,6 @@
 pub mod Inputs
 pub mod Readings
+pub mod Replays
 pub mod Reports
 pub mod Tellings
 pub mod Gathered

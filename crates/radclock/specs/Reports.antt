@@ -10,12 +10,16 @@ use Rattle.rtt_window.specs.declared.bases.Base.{Base}
 use Rattle.ff_estimator.specs.Folds.{fold_of}
 use Rattle.ff_estimator.specs.declared.fulls.Full.{Full}
 use Rattle.ff_hands.specs.declared.hands.Hands.{Hands}
-use Rattle.report_text.specs.Text.{head_text, end_text, stamp_text, base_text, estimate_text, tick_text, refused_text}
+use Rattle.clock_lines.specs.declared.readings.Entry.{Entry}
+use Rattle.tick_desk.specs.Shows.{PenShows}
+use Rattle.replay_run.specs.declared.plan.Options.{Options}
+use Rattle.report_text.specs.Text.{head_text, end_text, stamp_text, base_text, estimate_text, tick_text, entry_text, refused_text}
 use Rattle.report_text.specs.declared.lines.EndCounts.{EndCounts}
 use Rattle.report_text.specs.declared.lines.ReportHead.{ReportHead}
 use Rattle.report_text.specs.declared.lines.ReportHead.TheVariants as head
 use Rattle.radclock.specs.Inputs.{accepted_among}
 use Rattle.radclock.specs.Journals.{played_by}
+use Rattle.radclock.specs.Replays.{logs_of, entries_in}
 use Rattle.radclock.specs.declared.inputs.StampLine.{StampLine}
 use Rattle.clock_words.specs.declared.commands.Report.{Report}
 use Rattle.clock_words.specs.declared.commands.Report.TheVariants as asked
@@ -85,9 +89,36 @@ ticks_report freq ticks q hs = ticks_text (head.Ticks freq ticks) hs (end_counts
 unfoldable pub bases_of : ℕ → List Stamp → List Base
 bases_of freq all = map (base_at freq all) (range_with_len 0 (length all))
 
--- the report that is asked for, on a file
-unfoldable pub report_of : Report → ℕ → List StampLine → List (List ℕ)
-report_of asked.Stamps freq stamps = stamps_report freq (outcomes freq [] stamps) (accepted_among freq [] stamps)
-report_of asked.Rtt freq stamps = rtt_report freq (outcomes freq [] stamps) (bases_of freq (accepted_among freq [] stamps))
-report_of asked.Estimate freq stamps = estimate_report freq (outcomes freq [] stamps) (fold_of freq (accepted_among freq [] stamps))
-report_of (asked.Ticks ticks) freq stamps = ticks_report freq ticks (outcomes freq [] stamps) (played_by freq ticks stamps)
+-- the lines of a reader's entries, numbered from k on
+abbrev pub entry_lines : ℕ → ℕ → List Entry → List (List ℕ)
+entry_lines reader k [] = []
+entry_lines reader k (e ∷ es) = entry_text reader k e ∷ entry_lines reader (k + 1) es
+
+-- those of the logs of readers, numbered from this one on
+abbrev pub log_lines : ℕ → List (List Entry) → List (List ℕ)
+log_lines reader [] = []
+log_lines reader (es ∷ logs) = entry_lines reader 0 es ++ log_lines (reader + 1) logs
+
+-- the head of a report on a replay
+abbrev pub replay_head : ℕ → Options → ReportHead
+replay_head freq o = head.Replay freq o.ticks o.readers o.reads o.back o.crank
+
+-- what its end counts: the stamps, the ticks, and the entries of all logs
+abbrev pub replay_counts : List Outcome → List Hands → List (List Entry) → EndCounts
+replay_counts q ticks logs = record (end_counts q (Some (length ticks))) { entries = Some (entries_in logs) }
+
+-- the command `replay` tells of each accepted stamp its estimate, of these, then each tick, then each
+-- reader's entries
+unfoldable pub replay_report : ℕ → Options → List Outcome → List Full → List Hands → List (List Entry) → List (List ℕ)
+replay_report freq o q fulls ticks logs =
+    (((head_text (replay_head freq o) ∷ lines_of (λ i s. of_nth (estimate_text i) fulls i) 0 q) ++ tick_lines 0 ticks) ++ log_lines 0 logs)
+    ++ end_text (replay_counts q ticks logs) ∷ []
+
+-- the report that is asked for, on a file. Only that on a replay tells of a pen: of its journal, and of
+-- the logs that it took in
+unfoldable pub report_of : Report → ℕ → List StampLine → PenShows → List (List ℕ)
+report_of asked.Stamps freq stamps pen = stamps_report freq (outcomes freq [] stamps) (accepted_among freq [] stamps)
+report_of asked.Rtt freq stamps pen = rtt_report freq (outcomes freq [] stamps) (bases_of freq (accepted_among freq [] stamps))
+report_of asked.Estimate freq stamps pen = estimate_report freq (outcomes freq [] stamps) (fold_of freq (accepted_among freq [] stamps))
+report_of (asked.Ticks ticks) freq stamps pen = ticks_report freq ticks (outcomes freq [] stamps) (played_by freq ticks stamps)
+report_of (asked.Replay ticks readers reads back crank) freq stamps pen = replay_report freq (record { ticks = ticks; readers = readers; reads = reads; back = back; crank = crank }) (outcomes freq [] stamps) (fold_of freq (accepted_among freq [] stamps)) pen.journal (logs_of pen)

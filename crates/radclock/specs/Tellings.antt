@@ -7,7 +7,9 @@ use Rattle.rtt_window.specs.Bases.{base_at}
 use Rattle.ff_estimator.specs.Estimates.{full_at}
 use Rattle.report_text.specs.Text.{head_text, end_text, stamp_text, base_text, estimate_text, refused_text}
 use Rattle.report_text.specs.declared.lines.ReportHead.{ReportHead}
-use Rattle.radclock.specs.Reports.{Outcome, end_counts}
+use Rattle.ff_hands.specs.declared.hands.Hands.{Hands}
+use Rattle.clock_lines.specs.declared.readings.Entry.{Entry}
+use Rattle.radclock.specs.Reports.{Outcome, end_counts, replay_counts, tick_lines, log_lines}
 
 -- a stamp is accepted behind those that a value stands for, as that with this index
 pub record IsNext {T : Type 0} (stands : T → ℕ → List Stamp → Type 0) (telling : T) (index : ℕ) (s : Stamp) : Type 0 where
@@ -27,9 +29,17 @@ abbrev pub told : (List Stamp → Stamp → List ℕ) → List Stamp → List Ou
 told says accepted [] = []
 told says accepted (o ∷ os) = told_of says accepted o.line o.stamp o.answer ∷ told says (accepted_with accepted o.stamp o.answer) os
 
+-- a report as far as the lines of the stamps
+abbrev pub told_text : ReportHead → (List Stamp → Stamp → List ℕ) → List Outcome → List (List ℕ)
+told_text head says q = head_text head ∷ told says [] q
+
 -- a report: its head, a line for each outcome, and how many stamps were accepted and refused
 unfoldable pub report : ReportHead → (List Stamp → Stamp → List ℕ) → List Outcome → List (List ℕ)
-report head says q = (head_text head ∷ told says [] q) ++ end_text (end_counts q None) ∷ []
+report head says q = told_text head says q ++ end_text (end_counts q None) ∷ []
+
+-- a report on a replay: behind the lines of the stamps the ticks and the logs
+unfoldable pub replay_told : ReportHead → (List Stamp → Stamp → List ℕ) → List Outcome → List Hands → List (List Entry) → List (List ℕ)
+replay_told head says q ticks logs = ((told_text head says q ++ tick_lines 0 ticks) ++ log_lines 0 logs) ++ end_text (replay_counts q ticks logs) ∷ []
 
 -- the command `stamps` tells an accepted stamp with its index
 abbrev pub stamps_says : ℕ → List Stamp → Stamp → List ℕ

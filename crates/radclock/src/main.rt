@@ -7,13 +7,16 @@ ghost use Rattle.radclock.specs.Statuses.{code_of};
 
 mod bases;
 mod estimates;
+mod faults;
 mod gather;
 mod inputs;
 mod journal;
+mod listings;
 mod make;
 mod output;
 mod plays;
 mod reading;
+mod replay;
 mod reports;
 mod run;
 mod stamps;
@@ -24,14 +27,18 @@ mod ticks;
 
 use ff_grain::NoMemory;
 pub use output::run_in_blocks;
-use rad_io::{StdSink, StdSource};
+use rad_io::{OpenGate, StdSink, StdSource};
 pub use run::run;
 pub use status::Status;
+use std::io::{Input, Print};
 use std::process::ExitCode;
+use std::rt::Env;
+use std::thread::Threads;
 use std::{env, io};
+use tick_desk::Desk;
 
 // All words, the first of which is the program's name. Where one is not text there are none.
-fn owned_words<R: std::rt::Env + AllocGlobal>(rt: &R) -> Result<Vec<String>, NoMemory> {
+fn owned_words<R: Env + AllocGlobal>(rt: &R) -> Result<Vec<String>, NoMemory> {
     let mut words = Vec::new(rt.alloc());
     let args = match env::args(rt) {
         Ok(args) => args,
@@ -69,7 +76,10 @@ fn code_of_run(run: Result<Status, NoMemory>) -> u8
     }
 }
 
-fn run_with(rt: &HostRuntime) -> Result<Status, NoMemory> {
+fn run_with<R: Threads + Sync + Env + Input + Print + AllocGlobal>(
+    rt: &R,
+) -> Result<Status, NoMemory> {
+    let mut desk = Desk::start(rt.alloc())?;
     let owned = owned_words(rt)?;
     let mut words = Vec::new(rt.alloc());
     for word in words_behind(&owned) {
@@ -77,7 +87,15 @@ fn run_with(rt: &HostRuntime) -> Result<Status, NoMemory> {
     }
     let mut source = StdSource::new(rt.reader());
     let sink = StdSink::new(io::writer(rt));
-    let (status, _) = run_in_blocks(rt.alloc(), &words, &mut source, sink)?;
+    let (status, _) = run_in_blocks(
+        rt,
+        rt.alloc(),
+        &words,
+        &mut source,
+        sink,
+        &mut desk,
+        &OpenGate,
+    )?;
     Ok(status)
 }
 

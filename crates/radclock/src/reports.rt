@@ -1,16 +1,20 @@
-// The report on a file, for all commands that tell of each stamp.
-ghost use Rattle.std.specs.Prelude.{◌≡◌, ◌+◌, ◌≤◌, ◌<◌, ◌^◌, ℕ, List, [], ◌∷◌, ◌++◌, length, IfOk, IfSome, OnOk, MatchResult, Ok, Err};
+// The reports on a file that tell of each stamp.
+ghost use Rattle.std.specs.Prelude.{◌≡◌, ◌+◌, ◌≤◌, ◌<◌, ◌^◌, ℕ, List, [], ◌∷◌, ◌++◌, length, All, IfOk, IfSome, OnOk, MatchResult, Ok, Err};
 ghost use Rattle.rad_io.specs.Pushes.{Writes};
 ghost use Rattle.stamp_text.specs.Accepted.{IsInRange, accept_of, accepted_with, last_of};
 ghost use Rattle.stamp_text.specs.Format.{least_freq, greatest_freq};
 ghost use Rattle.stamp_text.specs.declared.lines.Stamp.{Stamp};
 ghost use Rattle.radclock.specs.Inputs.{IsRanged};
+ghost use Rattle.radclock.specs.Replays.{entries_in, entries_of};
 ghost use Rattle.radclock.specs.Reports.{outcomes};
-ghost use Rattle.radclock.specs.Tellings.{report, told_of, IsNext};
-ghost use Rattle.radclock.specs.Tallies.{StandsAt, Counts};
+ghost use Rattle.radclock.specs.Tellings.{report, replay_told, told_of, told_text, IsNext};
+ghost use Rattle.radclock.specs.Tallies.{StandsAt, Counts, CountsAll};
 
 use crate::inputs::{StampFile, StampLine};
+use crate::listings::{push_journal, push_logs};
+use ff_hands::Hands;
 use rad_io::{Failed, Sink};
+use replay_run::ReadLog;
 use report_text::{EndCounts, ReportHead, end_line, head_line, refused_line};
 use stamp_text::{Stamp, accept};
 
@@ -90,6 +94,33 @@ fn push_stamp<K: Sink, T: Telling>(
     }
 }
 
+/// Pushes a report as far as the lines of the stamps, and counts them. It takes no memory.
+pub fn push_told<K: Sink, T: Telling>(
+    sink: &mut K,
+    telling: &mut T,
+    head: &ReportHead,
+    file: &StampFile,
+) -> Result<Tally, Failed>
+    requires ranged { IsRanged file.now.freq file.now.stamps.items }
+    requires fresh { T.stands telling.old file.now.freq [] }
+    ensures lines { Writes K.written K.faults K.push_gives sink.old
+        (told_text head.now (T.says file.now.freq)
+        (outcomes file.now.freq [] file.now.stamps.items)) result sink.new }
+    ensures counts { IfOk result (λ t. CountsAll t
+        (outcomes file.now.freq [] file.now.stamps.items)) }
+{
+    head_line(sink, head)?;
+    let mut tally = Tally {
+        prev: None,
+        accepted: 0,
+        refused: 0,
+    };
+    for x in &file.stamps {
+        tally = push_stamp(sink, telling, file.freq, tally, x)?;
+    }
+    Ok(tally)
+}
+
 /// Pushes the report on a file: its head, a line for each stamp, and its end. It takes no memory.
 pub fn push_report<K: Sink, T: Telling>(
     sink: &mut K,
@@ -103,20 +134,45 @@ pub fn push_report<K: Sink, T: Telling>(
         (report head.now (T.says file.now.freq) (outcomes file.now.freq [] file.now.stamps.items))
         result sink.new }
 {
-    head_line(sink, head)?;
-    let mut tally = Tally {
-        prev: None,
-        accepted: 0,
-        refused: 0,
-    };
-    for x in &file.stamps {
-        tally = push_stamp(sink, telling, file.freq, tally, x)?;
-    }
+    let tally = push_told(sink, telling, head, file)?;
     let counts = EndCounts {
         accepted: tally.accepted,
         refused: tally.refused,
         ticks: None,
         entries: None,
+    };
+    end_line(sink, &counts)
+}
+
+/// Pushes the report on a replay: the lines of the stamps, a line for each tick, the logs of the
+/// readers, which have so many entries, and its end. It takes no memory.
+pub fn push_replay<K: Sink, T: Telling>(
+    sink: &mut K,
+    telling: &mut T,
+    head: &ReportHead,
+    file: &StampFile,
+    ticks: &[Hands],
+    logs: &[ReadLog],
+    entries: u64,
+) -> Result<(), Failed>
+    requires ranged { IsRanged file.now.freq file.now.stamps.items }
+    requires fresh { T.stands telling.old file.now.freq [] }
+    requires few { length logs.now < 2 ^ 32 }
+    requires short { All (λ l. length l.entries.items < 2 ^ 32) logs.now }
+    requires entries { entries ≡ entries_in (entries_of logs.now) }
+    ensures { Writes K.written K.faults K.push_gives sink.old
+        (replay_told head.now (T.says file.now.freq)
+        (outcomes file.now.freq [] file.now.stamps.items) ticks.now (entries_of logs.now))
+        result sink.new }
+{
+    let tally = push_told(sink, telling, head, file)?;
+    push_journal(sink, ticks)?;
+    push_logs(sink, logs)?;
+    let counts = EndCounts {
+        accepted: tally.accepted,
+        refused: tally.refused,
+        ticks: Some(ticks.len() as u64),
+        entries: Some(entries),
     };
     end_line(sink, &counts)
 }

@@ -1,23 +1,27 @@
 // The top call.
 ghost use Rattle.std.specs.Prelude.{◌≡◌, ◌⊎◌, ◌≤◌, ◌<◌, ◌^◌, ℕ, List, [], ◌∷◌, map, Some, None};
-ghost use Rattle.report_text.specs.Text.{fault_text};
+ghost use Rattle.ff_hands.specs.Windups.{cold};
 ghost use Rattle.clock_words.specs.Lines.{IsReportInRange, command_in};
 ghost use Rattle.clock_words.specs.declared.commands.Command.TheVariants as command;
 ghost use Rattle.clock_words.specs.declared.commands.Report.{Report};
+ghost use Rattle.replay_run.specs.declared.plan.Options.{Options};
+ghost use Rattle.tick_desk.specs.Shows.{IsFresh};
 ghost use Rattle.radclock.specs.Inputs.{IsRanged, stop_of_file, takes_few};
 ghost use Rattle.stamp_maker.specs.MadeStamps.{made_list};
 ghost use Rattle.report_text.specs.MadeFiles.{file_lines_of};
-ghost use Rattle.radclock.specs.Reports.{outcomes, report_of, ticks_text};
+ghost use Rattle.radclock.specs.Reports.{outcomes, ticks_text};
 ghost use Rattle.radclock.specs.Tellings.{report};
-ghost use Rattle.radclock.specs.Runs.{Ends, EndsWith, Finishes, WasDone, WasFree};
+ghost use Rattle.radclock.specs.Runs.{Ends, EndsWith, Finishes, Headline, MakesNone, WasDone, WasFree, replay_by};
 ghost use Rattle.radclock.specs.Statuses.{status_by};
 
 use crate::bases::Bases;
 use crate::estimates::Estimates;
+use crate::faults::refuse;
 use crate::inputs::{StampFile, takes_few};
 use crate::journal::{Played, play_file};
 use crate::make::push_made;
 use crate::reading::read_file;
+use crate::replay::replay;
 use crate::reports::{Telling, push_report};
 use crate::stamps::Stamps;
 use crate::status::{Status, fault_of, status_of};
@@ -25,24 +29,16 @@ use crate::ticks::push_ticks;
 use clock_words::{Command, Report, command_of};
 use ff_estimator::Daemon;
 use ff_grain::NoMemory;
-use rad_io::{Failed, Sink, Source};
-use report_text::{FaultText, ReportHead, fault_line};
+use rad_io::{Failed, Gate, Sink, Source};
+use replay_run::Options;
+use report_text::{FaultText, ReportHead};
 use rtt_window::Window;
 use std::alloc::Global;
 use std::marker::Brand;
 use std::sync::ledger::{Blank, Ledger};
+use std::thread::Threads;
 use step_count::Steps;
-
-// Pushes a fault line, and ends.
-fn refuse<K: Sink>(sink: &mut K, fault: FaultText, due: Status) -> Status
-    ensures { EndsWith K.written K.faults K.push_gives sink.old (fault_text fault ∷ []) due result
-        sink.new }
-{
-    match fault_line(sink, &fault) {
-        Ok(()) => due,
-        Err(Failed) => Status::WriteFault,
-    }
-}
+use tick_desk::Desk;
 
 // Pushes the report on a file by what tells of its stamps, and ends.
 fn report<K: Sink, T: Telling>(
@@ -77,11 +73,14 @@ fn report_ticks<K: Sink>(sink: &mut K, head: &ReportHead, played: &Played) -> St
 // Takes the memory that a report wants, pushes it, and ends. The comparisons of round trips are
 // counted in a ledger of their own, which ends here.
 #[tactic(auto, unfolding(crate::specs::Reports::report_of))]
-fn finish<K: Sink, L: Ledger>(
+fn finish<R: Threads + Sync, K: Sink, G: Gate, L: Ledger>(
+    rt: &R,
     alloc: Global,
     sink: &mut K,
     asked: Report,
     file: &StampFile,
+    desk: &mut Desk,
+    gate: &G,
     blank: Blank,
 ) -> Status
     requires name { blank.name ≡ L.name }
@@ -89,8 +88,9 @@ fn finish<K: Sink, L: Ledger>(
     requires some { 0 < blank.parts }
     requires asked { IsReportInRange asked }
     requires ranged { IsRanged file.now.freq file.now.stamps.items }
-    ensures { Finishes K.written K.faults K.push_gives sink.old
-        (report_of asked file.now.freq file.now.stamps.items) result sink.new }
+    requires fresh { IsFresh desk.old.pen desk.old.passes.items }
+    ensures { Finishes K.written K.faults K.push_gives asked file.now.freq file.now.stamps.items
+        sink.old desk.old result sink.new desk.new }
 {
     let freq = file.freq;
     let mut steps = Steps::<L>::new(blank);
@@ -114,6 +114,22 @@ fn finish<K: Sink, L: Ledger>(
             Ok(played) => report_ticks(sink, &ReportHead::Ticks { freq, ticks }, &played),
             Err(NoMemory) => refuse(sink, FaultText::Memory, Status::NoMemory),
         },
+        Report::Replay {
+            ticks,
+            readers,
+            reads,
+            back,
+            crank,
+        } => {
+            let options = Options {
+                ticks,
+                readers,
+                reads,
+                back,
+                crank,
+            };
+            replay(rt, alloc, sink, &options, file, steps, desk, gate)
+        }
     }
 }
 
@@ -132,14 +148,19 @@ fn make<K: Sink>(sink: &mut K, number: u64, count: u32) -> Status
 }
 
 // Reads the words, and the input where they ask for a report, and then writes.
-fn answer<'w, S: Source, K: Sink>(
+fn answer<'w, R: Threads + Sync, S: Source, K: Sink, G: Gate>(
+    rt: &R,
     alloc: Global,
     words: &'w [&'w str],
     source: &mut S,
     sink: &mut K,
+    desk: &mut Desk,
+    gate: &G,
 ) -> Status
+    requires fresh { IsFresh desk.old.pen desk.old.passes.items }
     ensures { Ends S.left S.faults S.pull_gives K.written K.faults K.push_gives
-        (map (λ w. w.now) words.entry.now) source.old source.new sink.old sink.new result }
+        (map (λ w. w.now) words.entry.now) source.old source.new sink.old sink.new
+        desk.old desk.new result }
 {
     let asked = match command_of(alloc, words) {
         Ok(Some(Command::Report(asked))) => asked,
@@ -148,7 +169,10 @@ fn answer<'w, S: Source, K: Sink>(
         Err(NoMemory) => return refuse(sink, FaultText::Memory, Status::NoMemory),
     };
     match read_file(alloc, source, takes_few(asked)) {
-        Ok(file) => finish::<K, Brand>(alloc, sink, asked, &file, Blank::new(1)),
+        Ok(file) => {
+            let blank = Blank::new(1);
+            finish::<R, K, G, Brand>(rt, alloc, sink, asked, &file, desk, gate, blank)
+        }
         Err(stop) => refuse(sink, fault_of(stop), status_of(stop)),
     }
 }
@@ -156,21 +180,52 @@ fn answer<'w, S: Source, K: Sink>(
 /// Does the whole work of the program: reads the words after the program's name, then, where they
 /// ask for a report, the whole input in pieces of 4,096 bytes, and then writes the report or the
 /// made file that the words ask for, or the one line of a fault. All memory is taken before the
-/// first push.
-pub fn run<'w, S: Source, K: Sink>(
+/// first push, and before the first tick of a replay.
+///
+/// A replay is played on the desk, on which nothing was done yet. Nothing else changes it. In every
+/// order in which the steps of the driver, the readers and the crank may come, a replay that is done
+/// has printed the desk's own journal and the readers' logs (`headline`):
+///
+/// - the journal is a legal one with the plan's orders; with a crank each of its counts is from the
+///   plan's to the plan's greatest, and without one it is the plan's own journal;
+/// - the estimates that its ticks took are those of the accepted stamps, each once and in order;
+/// - there is one log for each reader, with as many entries as attempts were asked for;
+/// - each log is legal over the journal: each reading is the value by one tick, at a count not past
+///   the next tick;
+/// - a call has to be made again only where a windup stood open or came between, or took the slot of
+///   the tick that the call was at (`again`);
+/// - each entry is current at the first load of its call, and shows no count past the greatest;
+/// - between resets uninterrupted readings never fall as the counts rise, whoever read them.
+pub fn run<'w, R: Threads + Sync, S: Source, K: Sink, G: Gate>(
+    rt: &R,
     alloc: Global,
     words: &'w [&'w str],
     source: &mut S,
     sink: &mut K,
+    desk: &mut Desk,
+    gate: &G,
 ) -> Status
-    // Which status comes, when it comes, and what was then pulled and pushed.
-    ensures ends { Ends S.left S.faults S.pull_gives K.written K.faults K.push_gives
-        (map (λ w. w.now) words.entry.now) source.old source.new sink.old sink.new result }
+    // Nothing was done with the desk.
+    requires fresh { IsFresh desk.old.pen desk.old.passes.items }
 
-    // What was appended, in bytes.
+    // Which status comes, when it comes, what was then pulled and pushed, and what the desk holds.
+    ensures ends { Ends S.left S.faults S.pull_gives K.written K.faults K.push_gives
+        (map (λ w. w.now) words.entry.now) source.old source.new sink.old sink.new
+        desk.old desk.new result }
+
+    // What was appended, in bytes, and what the desk holds.
     ensures done { result ≡ Status.Done →
         WasDone (S.left source.old) (S.left source.new) (K.written sink.old) (K.written sink.new)
-        (map (λ w. w.now) words.entry.now) }
+        desk.old desk.new (map (λ w. w.now) words.entry.now) }
+
+    // What a replay printed and left: each point of it has its name there.
+    ensures headline { (options : Options) → result ≡ Status.Done →
+        command_in (map (λ w. w.now) words.entry.now) ≡ Some (command.Report (replay_by options)) →
+        Headline (S.left source.old) (S.left source.new) (K.written sink.old) (K.written sink.new)
+        options desk.new.pen }
+
+    // No tick was made where the status is that of a fault, but for a failing push.
+    ensures none { MakesNone result → desk.new.pen.journal ≡ cold ∷ [] }
 
     // The words decide alone where they are no line or ask for a made file, and else the input, where
     // nothing else interferes and memory is there.
@@ -186,5 +241,5 @@ pub fn run<'w, S: Source, K: Sink>(
         WasFree (K.faults sink.old) (K.faults sink.new) →
         (result ≡ Status.Done) ⊎ (result ≡ Status.NoMemory) }
 {
-    answer(alloc, words, source, sink)
+    answer(rt, alloc, words, source, sink, desk, gate)
 }

@@ -3,14 +3,19 @@ mod large;
 mod rows;
 
 use crate::tests::large::{NUMBERED, REPEATED};
-use crate::tests::rows::{HEAD, LONG_LINES, NEVER, OTHER_WORDS, PULLS, PUSHES, ROOM, RUNS};
+use crate::tests::rows::{
+    ENTRY_WORDS, HEAD, INPUT, LONG_LINES, NEVER, OTHER_WORDS, PULLS, PUSHES, REPLAYS, ROOM, RUNS,
+};
 use crate::{Status, run, run_in_blocks};
-use rad_io::{MemSink, MemSource, StdSink, StdSource};
+use rad_io::{Gate, MemSink, MemSource, OpenGate, StdSink, StdSource};
 use std::alloc::Global;
-use std::io;
 use std::io::Write;
 use std::process::Abort;
+use std::sync::atomic::{AtomicU64, Ordering};
 use std::test::Fail;
+use std::thread::Threads;
+use std::{io, thread};
+use tick_desk::Desk;
 
 // How the input comes and the output goes: the most bytes of a pull and the number of the pull that
 // fails, the room for the output and the number of the push that fails.
@@ -49,12 +54,14 @@ fn words_of(alloc: Global, line: &'static str) -> Result<Vec<&'static str>, Fail
     Ok(words)
 }
 
-// Runs the words on an input. Answers the status and what is written.
-fn played(
+// Runs the words on an input, with a new desk and a gate. Answers the status and what is written.
+fn played_past<R: Threads + Sync, G: Gate>(
+    rt: &R,
     alloc: Global,
     words: &'static str,
     input: &str,
     outside: Outside,
+    gate: &G,
 ) -> Result<(Status, String), Fail> {
     let bytes = Vec::from_slice(alloc, input.as_bytes())?;
     let pulls = Vec::from_slice(alloc, &[outside.pull])?;
@@ -62,13 +69,25 @@ fn played(
     let mut source = MemSource::new(bytes, outside.step.max(1), pulls);
     let mut sink = MemSink::new(alloc, outside.room, pushes)?;
     let words = words_of(alloc, words)?;
-    let status = run(alloc, &words, &mut source, &mut sink);
+    let mut desk = Desk::start(alloc)?;
+    let status = run(rt, alloc, &words, &mut source, &mut sink, &mut desk, gate);
     Ok((status, String::from_utf8_lossy(alloc, sink.written())?))
 }
 
+// The same with a gate that holds nobody.
+fn played<R: Threads + Sync>(
+    rt: &R,
+    alloc: Global,
+    words: &'static str,
+    input: &str,
+    outside: Outside,
+) -> Result<(Status, String), Fail> {
+    played_past(rt, alloc, words, input, outside, &OpenGate)
+}
+
 // The exit status of a run and what it is to write.
-fn ends(
-    rt: &impl Abort,
+fn ends<R: Abort + Threads + Sync>(
+    rt: &R,
     alloc: Global,
     words: &'static str,
     input: &str,
@@ -76,7 +95,7 @@ fn ends(
     code: u8,
     text: &str,
 ) -> Result<(), Fail> {
-    let (status, told) = played(alloc, words, input, outside)?;
+    let (status, told) = played(rt, alloc, words, input, outside)?;
     assert_eq!(rt; status.code(), code, "at {words}: {input}");
     assert_eq!(rt; told.as_str(), text, "at {words}: {input}");
     Ok(())
@@ -142,18 +161,56 @@ fn faults_end_a_run(rt: HostRuntime) -> Result<(), Fail> {
 }
 
 // A run on a large input, and how what it writes ends.
-fn ends_large(
-    rt: &impl Abort,
+fn ends_large<R: Abort + Threads + Sync>(
+    rt: &R,
     alloc: Global,
     words: &'static str,
     input: &str,
     code: u8,
     end: &str,
 ) -> Result<(), Fail> {
-    let (status, told) = played(alloc, words, input, OUTSIDE)?;
+    let (status, told) = played(rt, alloc, words, input, OUTSIDE)?;
     assert_eq!(rt; status.code(), code, "at {words}: {end}");
     assert!(rt; told.ends_with(end), "at {words}: {end}");
     assert_eq!(rt; told.len() == end.len(), code != 0, "at {words}: {end}");
+    Ok(())
+}
+
+// The lines of a text that begin with one of these words.
+fn count_of(text: &str, words: &[&str]) -> usize {
+    let mut count = 0_usize;
+    for line in text.lines() {
+        if words.iter().any(|w| line.starts_with(*w)) {
+            count = count.saturating_add(1);
+        }
+    }
+    count
+}
+
+#[test]
+fn replays_tell_each_reader(rt: HostRuntime) -> Result<(), Fail> {
+    for (words, head, entries, end) in &REPLAYS {
+        let (status, told) = played(&rt, rt.alloc(), words, INPUT, OUTSIDE)?;
+        assert_eq!(rt; status.code(), 0, "at {words}");
+        assert!(rt; told.starts_with(*head), "at {words}");
+        assert!(rt; told.ends_with(*end), "at {words}");
+        assert_eq!(rt; count_of(&told, &ENTRY_WORDS), *entries, "at {words}");
+        assert_eq!(rt; count_of(&told, &["ahead "]), 0, "at {words}");
+    }
+    Ok(())
+}
+
+#[test]
+fn a_day_is_replayed(rt: HostRuntime) -> Result<(), Fail> {
+    let (_, day) = played(&rt, rt.alloc(), "make 7 5400", "", OUTSIDE)?;
+    let words = "replay --readers 4 --reads 1000";
+    let (status, told) = played(&rt, rt.alloc(), words, &day, OUTSIDE)?;
+    assert_eq!(rt; status.code(), 0);
+    assert_eq!(rt; count_of(&told, &["estimate "]), 5400);
+    assert_eq!(rt; count_of(&told, &["tick "]), 26998);
+    assert_eq!(rt; count_of(&told, &ENTRY_WORDS), 4000);
+    assert_eq!(rt; count_of(&told, &[""]), 36400);
+    assert!(rt; told.ends_with("\nend accepted 5400 refused 0 ticks 26998 entries 4000\n"));
     Ok(())
 }
 
@@ -225,9 +282,69 @@ fn no_write_follows_one_that_failed(rt: HostRuntime) -> Result<(), Fail> {
         let mut source = StdSource::new(b"".as_slice());
         let mut writer = Halting { left, writes: 0 };
         let sink = StdSink::new(&mut writer);
-        let (status, _) = run_in_blocks(rt.alloc(), &words, &mut source, sink)?;
+        let mut desk = Desk::start(rt.alloc())?;
+        let (status, _) = run_in_blocks(
+            &rt,
+            rt.alloc(),
+            &words,
+            &mut source,
+            sink,
+            &mut desk,
+            &OpenGate,
+        )?;
         assert_eq!(rt; status.code(), code, "at {line}: {left}");
         assert_eq!(rt; writer.writes, writes, "at {line}: {left}");
     }
+    Ok(())
+}
+
+/// How long a thread waits at most, in turns.
+const PATIENCE: u64 = 100_000_000;
+
+// Holds reader 1 before its first attempt until the driver is about to publish tick 4, and the driver there
+// until that reader has come. Each notes 1 where it came, and 2 where the other one did too.
+#[derive(Drop)]
+struct Meeting {
+    reader: AtomicU64,
+    driver: AtomicU64,
+}
+
+fn meet(own: &AtomicU64, other: &AtomicU64) {
+    own.store(1, Ordering::SeqCst);
+    for _ in 0..PATIENCE {
+        if other.load(Ordering::SeqCst) != 0 {
+            own.store(2, Ordering::SeqCst);
+            return;
+        }
+        thread::yield_now();
+    }
+}
+
+impl Gate for Meeting {
+    fn between_reads(&self, reader: u32, done: u32) {
+        if reader == 1 && done == 0 {
+            meet(&self.reader, &self.driver);
+        }
+    }
+
+    fn between_ticks(&self, next: u64) {
+        if next == 4 {
+            meet(&self.driver, &self.reader);
+        }
+    }
+}
+
+#[test]
+fn a_reader_and_the_driver_of_a_run_meet(rt: HostRuntime) -> Result<(), Fail> {
+    let gate = Meeting {
+        reader: AtomicU64::new(0),
+        driver: AtomicU64::new(0),
+    };
+    let words = "replay --ticks 4 --readers 2 --reads 4";
+    let (status, told) = played_past(&rt, rt.alloc(), words, INPUT, OUTSIDE, &gate)?;
+    assert_eq!(rt; status.code(), 0);
+    assert_eq!(rt; gate.reader.load(Ordering::SeqCst), 2);
+    assert_eq!(rt; gate.driver.load(Ordering::SeqCst), 2);
+    assert!(rt; told.ends_with("\nend accepted 2 refused 0 ticks 8 entries 8\n"));
     Ok(())
 }

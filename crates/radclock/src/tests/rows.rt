@@ -58,6 +58,17 @@ tick 4 take 17000100000 1700000016+922331527237072 1700000016+922309850774144 18
 end accepted 2 refused 0 ticks 5
 ";
 
+const WITHOUT_READERS: &str = "report replay freq 1000000000 ticks 1 readers 0 reads 100
+estimate 0 1000100000 1700000000+922337203600000 18446744072 50050 499999999 W 923259540800001 18437520700 18455967444 ---
+estimate 1 17000100000 1700000016+922331527237072 18446744073 100002 6250101 W 1844700733050001 18446628782 18446859367 ---
+tick 0 cold 0 0+0 0+0 0 0+0 U 0+0 0 0 0 0 U 0 0 0
+tick 1 reset 0 0+0 0+0 18446744072 0+0 U 0+0 0 18446744072 0 0 U 0 0 0
+tick 2 jump 1000100000 1700000000+922337203600000 1700000000+922337203600000 18446744072 1699999998+18445821738215503232 W 1700000000+922337203600000 1000100000 18446744072 50050 499999999 W 0 0 0
+tick 3 plain 9000100000 1700000008+922323527187072 1700000008+922323527187072 18446744072 1699999998+18445821738215503232 W 1700000000+922337203600000 1000100000 18446744072 50050 499999999 W 0 0 0
+tick 4 take 17000100000 1700000016+922331527237072 1700000016+922309850774144 18446744074 1699999998+18445821738215503232 W 1700000016+922331527237072 17000100000 18446744073 100002 6250101 W 0 0 0
+end accepted 2 refused 0 ticks 5 entries 0
+";
+
 const THREE_MADE: &str = "radclock-stamps 1
 freq 2400000000
 38400891338 1700000016.001110262 1700000016.001120808 38402164327
@@ -72,7 +83,7 @@ pub const NEVER: u64 = u64::MAX;
 pub const ROOM: usize = 40_000_000;
 
 /// The words, two parts of an input, the exit status and what is written.
-pub static RUNS: [(&str, &str, &str, u8, &str); 56] = [
+pub static RUNS: [(&str, &str, &str, u8, &str); 57] = [
     ("stamps", INPUT, "", 0, REPORT),
     (
         "stamps",
@@ -329,7 +340,46 @@ end accepted 2 refused 7
     ("ticks --ticks 4", HEAD, "", 0, NO_STAMPS),
     ("ticks --ticks 1", INPUT, "", 0, JUMP_AND_SLOPE),
     ("ticks --ticks=1", INPUT, "", 0, JUMP_AND_SLOPE),
+    (
+        "replay --ticks 1 --readers 0",
+        INPUT,
+        "",
+        0,
+        WITHOUT_READERS,
+    ),
     ("make 7 3", "", "", 0, THREE_MADE),
+];
+
+/// The first words of the lines of entries.
+pub const ENTRY_WORDS: [&str; 4] = ["read ", "again ", "old ", "ahead "];
+
+/// The words of a replay of two stamps, the first line that is written, how many lines of entries
+/// are, and the last line. What the readers read hangs on the order in which the threads come.
+pub static REPLAYS: [(&str, &str, usize, &str); 4] = [
+    (
+        "replay --ticks 1 --reads 7",
+        "report replay freq 1000000000 ticks 1 readers 2 reads 7\n",
+        14,
+        "\nend accepted 2 refused 0 ticks 5 entries 14\n",
+    ),
+    (
+        "replay --back --readers=3 --reads 12",
+        "report replay freq 1000000000 ticks 4 readers 3 reads 12 back\n",
+        36,
+        "\nend accepted 2 refused 0 ticks 8 entries 36\n",
+    ),
+    (
+        "replay --crank --ticks 15",
+        "report replay freq 1000000000 ticks 15 readers 2 reads 100 crank\n",
+        200,
+        "\nend accepted 2 refused 0 ticks 19 entries 200\n",
+    ),
+    (
+        "replay --crank --reads=0 --back",
+        "report replay freq 1000000000 ticks 4 readers 2 reads 0 back crank\n",
+        0,
+        "\nend accepted 2 refused 0 ticks 8 entries 0\n",
+    ),
 ];
 
 /// A start, a letter so many times and a rest, and what is written of the fault.
@@ -357,13 +407,15 @@ pub static LONG_LINES: [(&str, &str, usize, &str, &str); 14] = [
 ];
 
 /// Words that are no line of the command.
-pub static OTHER_WORDS: [&str; 22] = [
+pub static OTHER_WORDS: [&str; 24] = [
     "",
     "-- stamps",
     "stamps extra",
     "make 7",
     "run 7 3",
     "replay --readers 17",
+    "replay --reads 16385",
+    "replay --back --back",
     "ticks 4",
     "ticks --ticks",
     "ticks --ticks=",
@@ -384,7 +436,7 @@ pub static OTHER_WORDS: [&str; 22] = [
 
 /// The words, the input, the most bytes of a pull and the number of the pull that fails, the exit
 /// status and what is written.
-pub static PULLS: [(&str, &str, usize, u64, u8, &str); 13] = [
+pub static PULLS: [(&str, &str, usize, u64, u8, &str); 14] = [
     ("stamps", INPUT, 32, 0, 3, "fault read 0\n"),
     ("stamps", INPUT, 32, 1, 3, "fault read 32\n"),
     ("stamps", INPUT, 32, 2, 3, "fault read 64\n"),
@@ -398,15 +450,17 @@ pub static PULLS: [(&str, &str, usize, u64, u8, &str); 13] = [
     ("rtt", INPUT, 32, 2, 3, "fault read 64\n"),
     ("ticks", HEAD, 4096, 0, 3, "fault read 0\n"),
     ("ticks", HEAD, 4096, 1, 3, "fault read 34\n"),
+    ("replay", HEAD, 4096, 1, 3, "fault read 34\n"),
     // A made file reads nothing.
     ("make 7 3", "", 1, 0, 0, THREE_MADE),
 ];
 
 /// The words, the input, the room for the output and the number of the push that fails, the exit
 /// status and what is written.
-pub static PUSHES: [(&str, &str, usize, u64, u8, &str); 13] = [
+pub static PUSHES: [(&str, &str, usize, u64, u8, &str); 14] = [
     // The report has four lines, of 30, 63, 65 and 25 bytes.
     ("stamps", INPUT, ROOM, 0, 4, "report stamps f"),
+    ("replay", INPUT, ROOM, 0, 4, "report replay freq 1000000000"),
     (
         "stamps",
         INPUT,

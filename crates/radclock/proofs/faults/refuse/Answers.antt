@@ -1,7 +1,7 @@
 use Rattle.std.proofs.Common.{[], refl, inl, inr}
 use Rattle.report_text.specs.Text.{fault_text}
 use Rattle.rad_io.proofs.Chains.{wrote_nothing, wrote_more, broke}
-use Rattle.radclock.proofs.run.refuse.Goals as goal
+use Rattle.radclock.proofs.faults.refuse.Goals as goal
 
 pub returns-in-Ok : goal.returns-in-Ok
 returns-in-Ok g c =

@@ -2,7 +2,7 @@ use Rattle.std.proofs.Common.{◌+◌, ◌≤◌, IfSome}
 use Rattle.stamp_text.specs.Accepted.{IsInRange}
 use Rattle.report_text.specs.Text.{head_text}
 use Rattle.radclock.proofs.Progress.{Progress}
-use Rattle.radclock.proofs.reports.push_report.Given as goal
+use Rattle.radclock.proofs.reports.push_told.Given as goal
 
 abbrev pub invariant-loop-x : goal.invariant-loop-x
 invariant-loop-x g l = record {

@@ -1,0 +1,141 @@
+// The command `replay`.
+ghost use Rattle.std.specs.Prelude.{◌≡◌, [], IfOk};
+ghost use Rattle.ff_estimator.specs.Daemons.{StandsFor};
+ghost use Rattle.tick_desk.specs.Shows.{IsFresh};
+ghost use Rattle.radclock.specs.Inputs.{IsRanged, accepted_among};
+ghost use Rattle.replay_run.specs.Plans.{AreOptionsInRange};
+ghost use Rattle.radclock.specs.Replays.{IsPlanFor, IsReadyFor, ArePrinted};
+ghost use Rattle.radclock.specs.Reports.{report_of};
+ghost use Rattle.radclock.specs.Runs.{EndsWith, Finishes, replay_by};
+
+use crate::estimates::Estimates;
+use crate::faults::refuse;
+use crate::gather::fulls_of;
+use crate::inputs::StampFile;
+use crate::reports::push_replay;
+use crate::status::Status;
+use ff_estimator::Daemon;
+use ff_grain::NoMemory;
+use rad_io::{Failed, Gate, Sink};
+use replay_run::{Options, Plan, ReadLog, play};
+use report_text::{FaultText, ReportHead};
+use std::alloc::Global;
+use std::sync::ledger::Ledger;
+use std::thread::Threads;
+use step_count::Steps;
+use tick_desk::{Desk, Pen};
+
+// What a replay wants before its first tick: the plan, the readers' logs with their passes, and a
+// daemon that tells the estimates anew when the report is written.
+#[derive(Drop)]
+struct Ready {
+    plan: Plan,
+    logs: Vec<ReadLog>,
+    daemon: Daemon,
+}
+
+// The plan to replay the estimates of a file's accepted stamps.
+fn plan_for_file<L: Ledger>(
+    alloc: Global,
+    file: &StampFile,
+    options: &Options,
+    steps: &mut Steps<L>,
+) -> Result<Plan, NoMemory>
+    requires ranged { IsRanged file.now.freq file.now.stamps.items }
+    requires options { AreOptionsInRange options.now }
+    ensures { IfOk result (IsPlanFor file.now.freq options.now
+        (accepted_among file.now.freq [] file.now.stamps.items)) }
+{
+    let fulls = fulls_of(alloc, file, steps)?;
+    Plan::of(alloc, file.freq, &fulls, options)
+}
+
+// Takes all memory that a replay wants. No tick is made.
+fn prepare<L: Ledger>(
+    alloc: Global,
+    file: &StampFile,
+    options: &Options,
+    steps: &mut Steps<L>,
+    desk: &mut Desk,
+) -> Result<Ready, NoMemory>
+    requires ranged { IsRanged file.now.freq file.now.stamps.items }
+    requires options { AreOptionsInRange options.now }
+    requires fresh { IsFresh desk.old.pen desk.old.passes.items }
+    ensures ready { IfOk result (λ r. IsReadyFor file.now.freq options.now
+        (accepted_among file.now.freq [] file.now.stamps.items) r.plan r.logs.items desk.new.pen) }
+    ensures daemon { IfOk result (λ r. StandsFor r.daemon file.now.freq []) }
+    ensures journal { desk.new.pen.journal ≡ desk.old.pen.journal }
+{
+    // Nothing was done with the desk, so no pass was taken in either.
+    prove!(desk.is_fresh());
+    let plan = plan_for_file(alloc, file, options, steps)?;
+    let daemon = Daemon::new(alloc, file.freq)?;
+    desk.pen.reserve(plan.steps.len())?;
+    desk.passes(alloc, plan.options.readers)?;
+    let logs = ReadLog::all(alloc, desk, &plan)?;
+    Ok(Ready { plan, logs, daemon })
+}
+
+// Pushes the report on a replay, and ends.
+fn tell<K: Sink, L: Ledger>(
+    sink: &mut K,
+    telling: &mut Estimates<L>,
+    file: &StampFile,
+    options: &Options,
+    pen: &Pen,
+    logs: &[ReadLog],
+) -> Status
+    requires ranged { IsRanged file.now.freq file.now.stamps.items }
+    requires fresh { StandsFor telling.old.daemon file.now.freq [] }
+    requires printed { ArePrinted options.now pen.now logs.now }
+    ensures { EndsWith K.written K.faults K.push_gives sink.old (report_of (replay_by options.now)
+        file.now.freq file.now.stamps.items pen.now) Status.Done result sink.new }
+{
+    let head = ReportHead::Replay {
+        freq: file.freq,
+        ticks: options.ticks,
+        readers: options.readers,
+        reads: options.reads,
+        back: options.back,
+        crank: options.crank,
+    };
+    let entries = u64::from(options.readers) * u64::from(options.reads);
+    match push_replay(sink, telling, &head, file, pen.journal(), logs, entries) {
+        Ok(()) => Status::Done,
+        Err(Failed) => Status::WriteFault,
+    }
+}
+
+/// Plays the estimates of a file's accepted stamps on a fresh desk, beside readers, and pushes the
+/// report. All memory is taken before the first tick.
+pub fn replay<R: Threads + Sync, K: Sink, G: Gate, L: Ledger>(
+    rt: &R,
+    alloc: Global,
+    sink: &mut K,
+    options: &Options,
+    file: &StampFile,
+    steps: Steps<L>,
+    desk: &mut Desk,
+    gate: &G,
+) -> Status
+    requires ranged { IsRanged file.now.freq file.now.stamps.items }
+    requires options { AreOptionsInRange options.now }
+    requires fresh { IsFresh desk.old.pen desk.old.passes.items }
+    ensures { Finishes K.written K.faults K.push_gives (replay_by options.now) file.now.freq
+        file.now.stamps.items sink.old desk.old result sink.new desk.new }
+{
+    let mut steps = steps;
+    match prepare(alloc, file, options, &mut steps, desk) {
+        Ok(ready) => {
+            let Ready {
+                plan,
+                mut logs,
+                daemon,
+            } = ready;
+            play(rt, desk, &plan, &mut logs, gate);
+            let mut telling = Estimates { daemon, steps };
+            tell(sink, &mut telling, file, options, &desk.pen, &logs)
+        }
+        Err(NoMemory) => refuse(sink, FaultText::Memory, Status::NoMemory),
+    }
+}
