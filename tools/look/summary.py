@@ -1,0 +1,78 @@
+"""`look summary`: where the daemon and the clock stand at the end of a report."""
+from collections import Counter
+from fractions import Fraction
+
+import clock
+from report import GRAINS, HOWS, KINDS, TESTS
+
+
+def parts_in_million(period, frequency):
+    """How far a counter of this period is from its nominal frequency. Above 0 it is fast."""
+    return (Fraction(GRAINS, period) / frequency - 1) * 10**6
+
+
+def by_name(names, found):
+    """How many there are of each name."""
+    counted = Counter(found)
+    return ", ".join(f"{name} {counted[name]}" for name in names if counted[name]) or "none"
+
+
+def estimate_lines(count, time, of, frequency):
+    """An estimate: `of` is an estimate or a tick, which both have its period, errors and marks."""
+    hertz = Fraction(GRAINS, of.period)
+    yield "Time", clock.date(clock.nanos_floor(time))
+    yield "At the count", str(count)
+    yield "Time bound", "none" if "U" in of.marks else f"{of.error} ns"
+    yield "Frequency", f"{clock.decimal(hertz, 6)} Hz"
+    yield "From nominal", f"{clock.decimal(parts_in_million(of.period, frequency), 6)} ppm"
+    yield "Rate bound", "none" if "U" in of.marks else f"{clock.decimal(Fraction(of.rate_error, 10**6), 6)} ppm"
+    yield "Marks", {"-": "none", "U": "not synchronised", "W": "warming up"}.get(of.marks, "not synchronised, warming up")
+
+
+def last_estimate(report):
+    if report.estimates:
+        last = report.estimates[-1]
+        yield from estimate_lines(last.count, last.time, last, report.frequency)
+        return
+    taken = [tick for tick in report.ticks if tick.how in ("take", "jump")]
+    if taken:
+        last = report.ticks[-1]
+        yield from estimate_lines(last.update, last.given, last, report.frequency)
+
+
+def stamp_lines(report):
+    yield "Accepted", f"{report.accepted} exchanges"
+    names = f": {by_name(TESTS, (r.name for r in report.refused))}" if report.refused else ""
+    yield "Refused", f"{report.refusals}{names}"
+    if report.tells("estimate"):
+        flags = Counter("".join(e.flags for e in report.estimates))
+        yield "Level shifts", str(flags["S"])
+        yield "Local rates", str(flags["L"])
+        yield "Predictions", str(flags["P"])
+    if report.tells("base"):
+        yield "Level shifts", str(sum(base.shifted for base in report.bases))
+    if report.bases:
+        base = Fraction(report.bases[-1].base * 10**6, report.frequency)
+        yield "Base", f"{report.bases[-1].base} counts, {clock.decimal(base, 3)} us"
+
+
+def clock_lines(report):
+    if report.ticks:
+        last = report.ticks[-1]
+        ahead = Fraction((last.lerp - last.time) * clock.NANOS, GRAINS)
+        yield "Ticks", by_name(HOWS, (tick.how for tick in report.ticks))
+        yield "Uninterrupted", f"{clock.decimal(ahead, 3)} ns ahead of the absolute clock"
+    if report.tells("read"):
+        yield "Reads", by_name(KINDS, (r.kind for r in report.readings))
+        yield "Again", by_name(KINDS, (a.kind for a in report.agains))
+        yield "Too old", str(len(report.olds))
+        yield "Ahead", str(len(report.aheads))
+
+
+def lines(report):
+    """The lines of the summary."""
+    told = [("Counter", f"{report.frequency} Hz")]
+    told += last_estimate(report) if report.accepted else [("Time", "no estimate")]
+    told += stamp_lines(report)
+    told += clock_lines(report)
+    return [f"{name:<14}: {value}" for name, value in told]

@@ -1,0 +1,316 @@
+"""Tests of `look`: python3 -m unittest, in this folder."""
+import contextlib
+import io
+import math
+import os
+import re
+import subprocess
+import sys
+import tempfile
+import unittest
+import xml.etree.ElementTree
+from datetime import datetime, timedelta
+from fractions import Fraction
+
+import cli
+import clock
+from report import Wrong, read_report
+
+HERE = os.path.dirname(os.path.abspath(__file__))
+DATA = os.path.join(HERE, "testdata")
+SECOND = 2**64
+
+
+def data(name):
+    with open(os.path.join(DATA, name), encoding="ascii") as file:
+        return file.read()
+
+
+def look(words, text=None):
+    """Status, output and errors of the command, with the text as its standard input."""
+    out, err = io.StringIO(), io.StringIO()
+    given = io.TextIOWrapper(io.BytesIO((text or "").encode()))
+    before, sys.stdin = sys.stdin, given
+    try:
+        with contextlib.redirect_stdout(out), contextlib.redirect_stderr(err):
+            status = cli.main(words)
+    finally:
+        sys.stdin = before
+    return status, out.getvalue(), err.getvalue()
+
+
+# ---- A replay by hand: the rules of docs/CLOCK.md once more, over the plain words of tick lines ----
+
+def grains(text):
+    seconds, rest = text.split("+")
+    return int(seconds) * SECOND + int(rest)
+
+
+def text_of(time):
+    seconds = math.floor(Fraction(time, SECOND))
+    return f"{seconds}+{time - seconds * SECOND}"
+
+
+def hand_value(line, kind, count):
+    """What a clock reads, by a tick line."""
+    w = line.split(" ")
+    passed = count - int(w[3])
+    if kind in ("abs", "fast"):
+        return grains(w[4]) + passed * int(w[11])
+    if kind == "diff":
+        return count * int(w[11])
+    lerp = grains(w[5]) + passed * int(w[6])
+    return lerp - grains(w[7]) if kind == "uptime" else lerp
+
+
+def hand_bound(line, kind, count):
+    w = line.split(" ")
+    counts = count if kind == "diff" else count - int(w[10])
+    drift = math.ceil(Fraction(counts * int(w[11]) * int(w[13]), 10**12))
+    return drift if kind == "diff" else int(w[12]) * 18446744074 + drift
+
+
+def hand_tick(lines, count):
+    """The number of the last tick whose count is below this one, and 0 where there is none."""
+    found = 0
+    for n, line in enumerate(lines):
+        if int(line.split(" ")[3]) < count:
+            found = n
+    return found
+
+
+def hand_entries(lines, last):
+    """Readings of each kind by each tick: where it begins, within it, and where the next one begins."""
+    entries = []
+    for n, line in enumerate(lines):
+        begin = int(line.split(" ")[3])
+        end = int(lines[n + 1].split(" ")[3]) if n + 1 < len(lines) else last
+        for count in sorted({begin, (2 * begin + end) // 3, end}):
+            entries += [(kind, n, count) for kind in ("abs", "mono", "uptime")]
+            entries.append(("back", hand_tick(lines, count), count))
+        entries += [("fast", n, begin), ("diff", n, 1 + 7 * n)]
+    return [f"{kind} {n} {count} {text_of(hand_value(lines[n], kind, count))} {hand_bound(lines[n], kind, count)}"
+            for kind, n, count in entries]
+
+
+def hand_replay(past_the_end):
+    """The text of a report, of one reader that also had to try again, came too late, and asked too early."""
+    head, *lines, end = data("ticks.txt").splitlines()
+    last = int(lines[-1].split(" ")[3]) + past_the_end
+    read = [f"read 0 {k} {entry}" for k, entry in enumerate(hand_entries(lines, last))]
+    k = len(read)
+    missed = [f"again 0 {k} mono 3 5", f"again 0 {k + 1} back 6 8", f"old 0 {k + 2} 5 900", f"ahead 0 {k + 3} {last + 9} {last}"]
+    entries = read + missed
+    flags = " back crank" if past_the_end else " back"
+    made = [head.replace("ticks freq", "replay freq") + f" readers 1 reads {len(entries)}{flags}"]
+    made += data("estimate.txt").splitlines()[1:-1] + lines + entries + [f"{end} entries {len(entries)}"]
+    return "\n".join(made) + "\n"
+
+
+def blocks_of(out):
+    """What `at` told, by count and tick."""
+    blocks = {}
+    for line in out.splitlines():
+        found = re.match(r"count (\d+) tick (\d+) ", line)
+        if found:
+            block = blocks.setdefault((int(found[1]), int(found[2])), {})
+        else:
+            name, value = line.split(None, 1)
+            block[name] = value
+    return blocks
+
+
+class Replay(unittest.TestCase):
+    NAMES = {"abs": "absolute", "fast": "absolute", "mono": "uninterrupted", "back": "uninterrupted", "uptime": "uptime"}
+
+    def every_reading(self, past_the_end):
+        text = hand_replay(past_the_end)
+        readings = [r for r in read_report(text).readings if r.kind != "diff"]
+        counts = sorted({r.count for r in readings})
+        status, out, err = look(["at", *map(str, counts)], text)
+        self.assertEqual((status, err), (0, ""))
+        blocks = blocks_of(out)
+        told = [line.split(" ") for line in text.splitlines() if line.startswith("read ")]
+        compared = 0
+        for _, _, _, kind, tick, count, time, bound in told:
+            if kind == "diff":
+                continue
+            block = blocks[int(count), int(tick)]
+            self.assertEqual(block[self.NAMES[kind]].split(" = ")[1], time)
+            self.assertEqual(block["bound"].split(" = ")[1], f"{bound} grains")
+            compared += 1
+        self.assertGreater(compared, 500)
+
+    def test_at_gives_what_readers_were_told(self):
+        self.every_reading(0)
+
+    def test_at_gives_what_readers_were_told_past_the_last_tick(self):
+        self.every_reading(54321)
+
+    def test_a_past_count_is_read_by_the_first_tick_that_is_told(self):
+        text = hand_replay(0)
+        for reading in read_report(text).readings:
+            if reading.kind == "back":
+                out = look(["at", str(reading.count)], text)[1]
+                self.assertTrue(out.startswith(f"count {reading.count} tick {reading.tick} "))
+
+    def test_the_journal_reaches_as_far_as_the_counter_was_met(self):
+        text = hand_replay(0)
+        last = read_report(text).ticks[-1].count
+        ahead = re.search(r"ahead 0 (\d+) .*\n", text)
+        diff = f"read 0 {ahead[1]} diff 71 {last * 2} 0+0 0\n"  # an interval is no count
+        for line, furthest in ((ahead[0], last), (diff, last), (f"ahead 0 {ahead[1]} {last + 9} {last + 4}\n", last + 4)):
+            changed = text.replace(ahead[0], line)
+            out = look(["at", str(furthest), str(furthest + 1)], changed)[1]
+            self.assertIn(f"count {furthest} tick 71 take\n", out.replace(", by which a past count is read", ""))
+            self.assertTrue(out.endswith(f"count {furthest + 1}: the journal does not reach it, only from 0 to {furthest}\n"))
+
+    def test_summary_counts_all(self):
+        out = look(["summary"], hand_replay(0))[1]
+        self.assertIn("Ticks         : cold 1, plain 46, take 23, jump 1, reset 1\n", out)
+        self.assertRegex(out, r"Reads +: abs (\d+), mono \1, uptime \1, fast 72, diff 72, back \1\n")
+        self.assertIn("Again         : mono 1, back 1\n", out)
+        self.assertIn("Too old       : 1\nAhead         : 1\n", out)
+
+
+class At(unittest.TestCase):
+    def test_dates_bound_the_time_outwards(self):
+        last = data("ticks.txt").splitlines()[-2]
+        count = int(last.split(" ")[3])
+        out = look(["at", str(count)], data("ticks.txt"))[1]
+        block = list(blocks_of(out).values())[-1]
+        absolute, bound = hand_value(last, "abs", count), hand_bound(last, "abs", count)
+        for name, time, rounded in (("absolute", absolute, math.floor), ("earliest", absolute - bound, math.floor),
+                                    ("latest", absolute + bound, math.ceil)):
+            nanos = rounded(Fraction(time * 10**9, SECOND))
+            day = datetime(1970, 1, 1) + timedelta(seconds=nanos // 10**9)
+            self.assertEqual(block[name], f"{day} UTC = {text_of(time)}".replace(" UTC", f".{nanos % 10**9:09d} UTC"))
+
+    def test_nothing_is_said_past_the_journal(self):
+        status, out, _ = look(["at", "4611686018427387903"], data("ticks.txt"))
+        self.assertEqual(status, 0)
+        self.assertIn("the journal does not reach it", out)
+
+    def test_no_bound_before_the_first_estimate(self):
+        out = look(["at", "5"], data("ticks.txt"))[1]
+        self.assertIn("earliest      not bounded", out)
+
+    def test_dates(self):
+        self.assertEqual(clock.date(0), "1970-01-01 00:00:00.000000000 UTC")
+        self.assertEqual(clock.date(-1), "1969-12-31 23:59:59.999999999 UTC")
+        self.assertEqual(clock.date(2**32 * 10**9), "2106-02-07 06:28:16.000000000 UTC")
+        self.assertEqual(clock.date(2**45 * 10**9 + 7), "35184372088832 s and 7 ns since 1970")
+        self.assertEqual(clock.decimal(Fraction(-1, 3), 3), "-0.333")
+
+
+class Summary(unittest.TestCase):
+    def test_estimates(self):
+        out = look(["summary"], data("estimate.txt"))[1]
+        last = data("estimate.txt").splitlines()[-2].split(" ")
+        self.assertIn(f"At the count  : {last[2]}\n", out)
+        self.assertIn(f"Time bound    : {last[5]} ns\n", out)
+        hertz = re.search(r"Frequency +: ([0-9.]+) Hz", out)[1]
+        self.assertAlmostEqual(float(hertz), SECOND / int(last[4]), 3)
+        self.assertIn("Accepted      : 24 exchanges\nRefused       : 0\nLevel shifts  : 0\n", out)
+
+    def test_ticks_and_round_trips(self):
+        out = look(["summary"], data("ticks.txt"))[1]
+        last = data("ticks.txt").splitlines()[-2].split(" ")
+        ahead = Fraction((grains(last[5]) - grains(last[4])) * 10**9, SECOND)
+        told = re.search(r"Uninterrupted : (-?[0-9.]+) ns ahead", out)[1]
+        self.assertLess(abs(Fraction(told) - ahead), Fraction(1, 1000))
+        self.assertIn("Ticks         : cold 1, plain 46, take 23", out)
+        self.assertIn("Base          : ", look(["summary"], data("rtt.txt"))[1])
+
+    def test_refusals_by_name(self):
+        text = "report estimate freq 1000000000\nrefused 3 overlap\nrefused 5 acausal\nrefused 7 overlap\nend accepted 0 refused 3\n"
+        out = look(["summary"], text)[1]
+        self.assertIn("Time          : no estimate\n", out)
+        self.assertIn("Refused       : 3: overlap 2, acausal 1\n", out)
+
+
+class WrongInput(unittest.TestCase):
+    def refused(self, words, text):
+        status, out, err = look(words, text)
+        self.assertEqual((status, out), (1, ""))
+        self.assertRegex(err, r"\Alook: [^\n]+\n\Z")
+
+    def test_each_line_is_needed(self):
+        lines = hand_replay(0).splitlines(keepends=True)
+        for n in [*range(0, len(lines), 17), len(lines) - 1]:
+            with self.assertRaises(Wrong):
+                read_report("".join(lines[:n] + lines[n + 1:]))
+
+    def test_each_piece_is_judged(self):
+        for name in ("estimate.txt", "ticks.txt", "rtt.txt"):
+            lines = data(name).splitlines()
+            for n in (0, 1, 7, len(lines) - 1):
+                pieces = lines[n].split(" ")
+                for i in range(len(pieces)):
+                    for bad in ("", "x", "01", "-", "1+18446744073709551616", "9" * 5000):
+                        changed = pieces[:i] + [bad] + pieces[i + 1:]
+                        if bad == "-" and pieces[i] in ("U", "W", "-"):
+                            continue
+                        with self.assertRaises(Wrong, msg=" ".join(changed)[:200]):
+                            read_report("\n".join(lines[:n] + [" ".join(changed)] + lines[n + 1:]) + "\n")
+
+    def test_counts_never_fall_and_ticks_are_there(self):
+        for old, new in ((r"(tick 60 plain) \d+", r"\1 0"), (r"(read 0 9 abs) \d+", r"\1 72"), (r"(estimate 5) \d+", r"\1 0")):
+            changed, times = re.subn(old, new, re.sub("read 0 9 [a-z]+", "read 0 9 abs", hand_replay(0)))
+            self.assertEqual(times, 1)
+            self.refused(["summary"], changed)
+
+    def test_no_report_is_cut_off(self):
+        text = data("ticks.txt")
+        for length in range(0, len(text), 101):
+            self.refused(["summary"], text[:length])
+
+    def test_a_fault_is_told(self):
+        self.refused(["summary"], "fault input 3 digits\n")
+        self.assertIn("fault input 3 digits", look(["summary"], "fault input 3 digits\n")[2])
+
+    def test_words(self):
+        text = data("ticks.txt")
+        for words in ([], ["tell"], ["at"], ["at", "x"], ["at", "-1"], ["at", str(2**62)], ["at", "1" * 5000], ["plot"],
+                      ["summary", "-f", os.path.join(DATA, "none")], ["summary", "-f", DATA]):
+            self.refused(words, text)
+        self.refused(["at", "5"], data("estimate.txt"))
+
+    def test_the_program_itself(self):
+        run = subprocess.run([sys.executable, os.path.join(HERE, "look"), "summary"], input=b"\xff\n", capture_output=True)
+        self.assertEqual((run.returncode, run.stdout), (1, b""))
+        self.assertEqual(len(run.stderr.splitlines()), 1)
+
+
+class Plot(unittest.TestCase):
+    def setUp(self):
+        try:
+            import plot  # noqa: F401
+        except Wrong as wrong:
+            self.skipTest(str(wrong))
+
+    def titles(self, words, text):
+        with tempfile.TemporaryDirectory() as folder:
+            path = os.path.join(folder, "picture.svg")
+            self.assertEqual(look(["plot", path, *words], text), (0, "", ""))
+            return " ".join(xml.etree.ElementTree.parse(path).getroot().itertext())
+
+    def test_all_that_is_told_is_drawn(self):
+        drawn = self.titles(["-f", "-", "-f", os.path.join(DATA, "rtt.txt")], hand_replay(0))
+        for title in ("Round trips", "frequency, from nominal", "uninterrupted clock, from the absolute one",
+                      "Readings, from the absolute clock", "Intervals that were read"):
+            self.assertIn(title, drawn)
+
+    def test_no_more_is_drawn(self):
+        self.assertNotIn("Readings", self.titles([], data("ticks.txt")))
+
+    def test_wrong_input(self):
+        WrongInput.refused(self, ["plot", "picture.png"], data("ticks.txt"))
+        WrongInput.refused(self, ["plot", os.path.join(DATA, "none", "picture.svg")], data("ticks.txt"))
+        WrongInput.refused(self, ["plot", "x.svg"], "report rtt freq 1000000000\nend accepted 0 refused 0\n")
+        WrongInput.refused(self, ["plot", "x.svg", "-f", "-", "-f", os.path.join(DATA, "rtt.txt")],
+                           "report rtt freq 1000000000\nend accepted 0 refused 0\n")
+
+
+if __name__ == "__main__":
+    unittest.main()
