@@ -123,8 +123,7 @@ def blocks_of(out):
 class Replay(unittest.TestCase):
     NAMES = {"abs": "absolute", "fast": "absolute", "mono": "uninterrupted", "back": "uninterrupted", "uptime": "uptime"}
 
-    def every_reading(self, past_the_end):
-        text = hand_replay(past_the_end)
+    def every_reading(self, text, least):
         readings = [r for r in read_report(text).readings if r.kind != "diff"]
         counts = sorted({r.count for r in readings})
         status, out, err = look(["at", *map(str, counts)], text)
@@ -139,13 +138,16 @@ class Replay(unittest.TestCase):
             self.assertEqual(block[self.NAMES[kind]].split(" = ")[1], time)
             self.assertEqual(block["bound"].split(" = ")[1], f"{bound} grains")
             compared += 1
-        self.assertGreater(compared, 500)
+        self.assertGreater(compared, least)
 
     def test_at_gives_what_readers_were_told(self):
-        self.every_reading(0)
+        self.every_reading(hand_replay(0), 500)
 
     def test_at_gives_what_readers_were_told_past_the_last_tick(self):
-        self.every_reading(54321)
+        self.every_reading(hand_replay(54321), 500)
+
+    def test_at_gives_what_the_program_printed(self):
+        self.every_reading(data("replay.txt"), 200)
 
     def test_a_past_count_is_read_by_the_first_tick_that_is_told(self):
         text = hand_replay(0)

@@ -7,6 +7,7 @@ ghost use Rattle.replay_run.specs.Logs.{IsReady, HasRun, ask_for};
 use crate::log::ReadLog;
 use clock_lines::{Entry, Kind};
 use rad_io::Gate;
+use std::mem;
 use tick_desk::{Answer, Converted, Pass};
 
 // The kind of an attempt.
@@ -78,6 +79,9 @@ fn attempt(pass: &mut Pass, kind: Kind, freq: u64, latest: u64) -> Entry
 }
 
 // Makes all attempts of a reader, one after the other.
+//
+// The pass and the entries are the function's own while it runs: the logs of all readers lie side by side, and
+// threads that wrote in them at each attempt would take the same cache lines from each other.
 pub(crate) fn read_all<G: Gate>(gate: &G, log: &mut ReadLog, freq: u64, back: bool, reads: u32)
     requires freq { freq < 2 ^ 62 }
     requires ready { IsReady reads log.old }
@@ -87,12 +91,15 @@ pub(crate) fn read_all<G: Gate>(gate: &G, log: &mut ReadLog, freq: u64, back: bo
     let Some(mut pass) = log.pass.take() else {
         unreachable!()
     };
+    let alloc = *log.entries.allocator();
+    let mut entries = mem::replace(&mut log.entries, Vec::new(alloc));
     let mut latest = 0;
     for k in 0..reads {
         gate.between_reads(reader, k);
         let entry = attempt(&mut pass, kind_at(back, k), freq, latest);
         latest = latest_with(latest, &entry);
-        log.entries.push_reserved(entry);
+        entries.push_reserved(entry);
     }
+    log.entries = entries;
     log.pass = Some(pass);
 }

@@ -4,9 +4,8 @@ use Rattle.replay_run.proofs.reader.read_all.Given as goal
 
 abbrev pub invariant-loop-k : goal.invariant-loop-k
 invariant-loop-k g l = record {
-  reads : Reads l.freq l.back l.log.entries.items l.pass l.k l.latest;
-  room : l.reads ≤ vec_capacity l.log.entries;
+  reads : Reads l.freq l.back l.entries.items l.pass l.k l.latest;
+  room : l.reads ≤ vec_capacity l.entries;
   table : l.pass.table ≡ l.initial.pass.table;
   number : l.pass.view.number ≡ l.log.reader;
-  reader : l.log.reader ≡ l.initial.log.reader;
 }
