@@ -50,7 +50,7 @@ unfolding full_at
 updates-rise freq all i j are order here = counts-rise freq all i j are order here
 
 -- what holds at each stamp holds of each estimate
-fold-all : (P : Full → Type 0) (freq : ℕ) (all : List Stamp) → ((i : ℕ) → i < length all → P (full_at freq all i)) → All P (fold_of freq all)
+pub fold-all : (P : Full → Type 0) (freq : ℕ) (all : List Stamp) → ((i : ℕ) → i < length all → P (full_at freq all i)) → All P (fold_of freq all)
 fold-all P freq all each k d within =
     let here : k < length all = omega (arith, length-fold_of freq all) in
     subst P (sym (get_or-fold_of freq all k d here)) (each k here)

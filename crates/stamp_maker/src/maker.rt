@@ -1,6 +1,8 @@
 // Stamps, one after the other.
 ghost use Rattle.std.specs.Prelude.{◌≡◌, ◌+◌, ◌^◌, ◌<◌, ◌≤◌, IfSome, OnSome, MatchOption};
-ghost use Rattle.stamp_maker.specs.MadeStamps.{made, IsWithin};
+ghost use Rattle.world_times.specs.Worlds.{LiesIn};
+ghost use Rattle.stamp_maker.specs.Worlds.{made_world};
+ghost use Rattle.stamp_maker.specs.MadeStamps.{made, IsWithin, stamp_of_made};
 
 use crate::draws::{backward_delay, departure, draw, forward_delay, service};
 use crate::made::{Made, exchange};
@@ -43,7 +45,8 @@ impl Maker {
         }
     }
 
-    /// The next stamp, or `None` where all were made, and then nothing changes any more.
+    /// The next stamp, which lies in the made world, or `None` where all were made, and then nothing
+    /// changes any more.
     pub fn next(&mut self) -> Option<Made>
         ensures made { MatchOption result
             (self.old.made ≡ self.old.count)
@@ -53,6 +56,7 @@ impl Maker {
             (λ _. self.new ≡ record self.old { made = self.old.made + 1 }) }
         ensures left { OnSome result (self.old.made < self.old.count) }
         ensures within { IfSome result IsWithin }
+        ensures lies { IfSome result (λ m. LiesIn made_world (stamp_of_made m)) }
     {
         if self.made >= self.count {
             return None;

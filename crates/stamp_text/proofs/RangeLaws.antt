@@ -1,6 +1,6 @@
 -- What a reader gives is in its range.
-use Rattle.std.proofs.Common.{◌≡◌, ℕ, ◌*◌, ◌/◌, ◌<◌, ◌&&◌, ◌||◌, Bool, true, false, cond, List, [], ◌∷◌, Option, None, Some, Result, Ok, Err, IfOk, IfSome, length, take, drop, codes, refl, arith, ltb, leb, eqb}
-use Rattle.std.specs.List.{list_any, before_first, after_first}
+use Rattle.std.proofs.Common.{◌≡◌, ℕ, ◌+◌, ◌*◌, ◌/◌, ◌<◌, ◌&&◌, ◌||◌, Bool, true, false, cond, List, [], ◌∷◌, Option, None, Some, Result, Ok, Err, IfOk, IfSome, length, take, drop, codes, refl, arith, ltb, leb, eqb}
+use Rattle.std.specs.List.{AllByRecursion, list_any, before_first, after_first}
 use Rattle.std.specs.Str.{bytes_eq}
 use Rattle.std.proofs.lemmas.Bool.Decides.{nat_tests}
 use Rattle.std.proofs.lemmas.Int.{ints}
@@ -13,11 +13,11 @@ use Rattle.stamp_text.specs.declared.lines.Why.TheVariants as why
 use Rattle.stamp_text.specs.declared.numbers.Written.{Written}
 use Rattle.stamp_text.specs.Accepted.{IsInRange, IsLineInRange}
 use Rattle.stamp_text.proofs.DigitLaws.{nanos_of_lt}
-use Rattle.stamp_text.specs.Cut.{without_return}
+use Rattle.stamp_text.specs.Cut.{file_lines, without_return}
 use Rattle.stamp_text.specs.Digits.{number_in}
 use Rattle.stamp_text.specs.Times.{is_fraction, nanos_of, nanos_in, written_of, is_point, time_in}
 use Rattle.stamp_text.specs.Stamps.{pieces_of, is_empty, stamp_within, stamp_of_numbers, stamp_of_pieces, stamp_in}
-use Rattle.stamp_text.specs.Grammar.{version_says, freq_within, head_of, freq_says, is_skipped, stamp_at, entry_says, text_says, short_says, missing}
+use Rattle.stamp_text.specs.Grammar.{version_says, freq_within, head_of, freq_says, is_skipped, stamp_at, entry_says, text_says, short_says, line_says, given_on, given_from, given_of_file, missing}
 use Rattle.stamp_text.specs.Kept.{Kept}
 use Rattle.stamp_text.specs.FeedSteps.{line_number, at_line, sound_answer, unless_faulty, step_answer, second_line, nothing_unless, sound_end, last_answer}
 
@@ -153,3 +153,19 @@ end-in-range ended n (b ∷ bs) = second-in-range n (at_line n (short_says n (b 
 pub last-in-range : (k : Kept) → GivesInRange (last_answer k)
 unfolding last_answer
 last-in-range k = unless-in-range k.fault (sound_end k.ended (line_number k.ended) k.line) (end-in-range k.ended (line_number k.ended) k.line)
+
+-- what a line gives, and those behind it
+on-in-range : (r : Result (Option Line) Why) (more : List Line) → GivesInRange r → AllByRecursion IsLineInRange more → AllByRecursion IsLineInRange (given_on r more)
+on-in-range (Ok None) more h all = all
+on-in-range (Ok (Some x)) more h all = (h, all)
+on-in-range (Err w) more h all = tt
+
+lines-in-range : (n : ℕ) (lines : List (List ℕ)) → AllByRecursion IsLineInRange (given_from n lines)
+lines-in-range n [] = tt
+lines-in-range n (line ∷ lines) =
+    on-in-range (line_says n line) (given_from (n + 1) lines) (either-in-range (ltb 255 (length line)) (Err why.LongLine) (short_says n line) tt (says-in-range n (without_return line))) (lines-in-range (n + 1) lines)
+
+-- what a whole input gives
+pub file-in-range : (text : List ℕ) → AllByRecursion IsLineInRange (given_of_file text)
+unfolding given_of_file
+file-in-range text = lines-in-range 1 (file_lines text)

@@ -1,0 +1,4 @@
+pub mod Watching
+pub mod Deviating
+pub mod MadeTruth
+pub mod Judging

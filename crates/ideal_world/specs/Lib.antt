@@ -1,0 +1,3 @@
+pub mod Deviations
+pub mod Watching
+pub mod MadeTruth

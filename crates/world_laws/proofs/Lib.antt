@@ -1,0 +1,5 @@
+pub mod RatesHold
+pub mod TimesHold
+pub mod EstimatesHold
+pub mod BoundsHold
+pub mod PlansGoBy

@@ -1,0 +1,4 @@
+pub mod Spreads
+pub mod Truths
+pub mod Laws
+pub mod Journals

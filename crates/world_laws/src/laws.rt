@@ -1,0 +1,35 @@
+// What holds of the definitions in an ideal world.
+ghost use Rattle.world_laws.specs.Journals.{PlansGoBy, BoundsHold, ReadingsHold, PlaysHold};
+ghost use Rattle.world_laws.specs.Laws.{PairsHold, NominalHolds, TermsHold, MeansHold, PredictionsHold, SpreadsHold, EstimatesHold};
+
+/// The law that the bounds of a rate cover the true period: of the rate of a pair that lies in the
+/// world, and of the nominal one.
+pub fn rates_hold()
+    ensures pair { PairsHold }
+    ensures nominal { NominalHolds }
+{}
+
+/// The law that a time that is said of a later count is within its spread of the truth: by one stamp,
+/// by a mean, and by a prediction.
+pub fn times_hold()
+    ensures term { TermsHold }
+    ensures mean { MeansHold }
+    ensures prediction { PredictionsHold }
+{}
+
+/// The law that each estimate of accepted stamps that lie in the world is within its spread of the
+/// truth, and, unless it is marked unsynchronised, within its bound at each later count.
+pub fn estimates_hold()
+    ensures spread { SpreadsHold }
+    ensures estimate { EstimatesHold }
+{}
+
+/// The law that the bounds of the clock cover the truth: by a journal whose takes are of the
+/// estimates of accepted stamps that lie in the world, at each tick that is synchronised, and at each
+/// count from its own on. A journal of the plan of their estimates is such a one.
+pub fn bounds_hold()
+    ensures plan { PlansGoBy }
+    ensures bound { BoundsHold }
+    ensures reading { ReadingsHold }
+    ensures play { PlaysHold }
+{}
