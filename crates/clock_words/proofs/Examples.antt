@@ -102,3 +102,20 @@ replay_with_place = refl
 flag_of_another : command_in (codes "ticks" ∷ codes "--back" ∷ []) ≡ None
 unfolding command_in items_in items_from
 flag_of_another = refl
+
+-- `run`, whose flag stands last
+plain_run : command_in (codes "run" ∷ codes "7" ∷ codes "4096" ∷ []) ≡ Some (command.Run 7 4096 false)
+unfolding command_in items_in items_from
+plain_run = refl
+
+one_stamp_more : command_in (codes "run" ∷ codes "7" ∷ codes "4097" ∷ []) ≡ None
+unfolding command_in items_in items_from
+one_stamp_more = refl
+
+flag_last : command_in (codes "run" ∷ codes "7" ∷ codes "3" ∷ codes "--ideal" ∷ []) ≡ Some (command.Run 7 3 true)
+unfolding command_in items_in items_from
+flag_last = refl
+
+flag_between : command_in (codes "run" ∷ codes "7" ∷ codes "--ideal" ∷ codes "3" ∷ []) ≡ None
+unfolding command_in items_in items_from
+flag_between = refl

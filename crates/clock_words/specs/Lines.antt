@@ -1,10 +1,10 @@
 -- The lines of the program: the name of a command, and what its row has behind it.
-use Rattle.std.specs.Prelude.{◌≡◌, ◌↔◌, ℕ, ◌<◌, ◌≤◌, ◌^◌, ◌-◌, Bool, false, nat_le, if◌then◌else◌, List, [], ◌∷◌, Option, None, Some, codes, option_map, option_and_then}
+use Rattle.std.specs.Prelude.{◌≡◌, ◌↔◌, ℕ, ◌<◌, ◌≤◌, ◌^◌, ◌-◌, Bool, false, true, nat_le, if◌then◌else◌, List, [], ◌∷◌, take, Option, None, Some, codes, option_map, option_and_then}
 use Rattle.std.specs.Option.{option_zip}
 use Rattle.std.specs.Str.{bytes_eq}
 use Rattle.stamp_text.specs.Digits.{number_in}
 use Rattle.clock_words.specs.Rows.{Text, Row, Item, has, is_given, value_of, items_in}
-use Rattle.clock_words.specs.Parts.{AreWritten}
+use Rattle.clock_words.specs.Parts.{AreWritten, dashed}
 use Rattle.clock_words.specs.declared.commands.Command.{Command}
 use Rattle.clock_words.specs.declared.commands.Command.TheVariants as command
 use Rattle.clock_words.specs.declared.commands.Report.{Report}
@@ -32,6 +32,9 @@ number_name = codes "NUMBER"
 abbrev pub count_name : Text
 count_name = codes "COUNT"
 
+abbrev pub ideal_name : Text
+ideal_name = codes "ideal"
+
 -- nothing
 abbrev pub bare_row : Row
 bare_row = record { places = []; options = []; flags = [] }
@@ -43,6 +46,10 @@ ticks_row = record { places = []; options = ticks_name ∷ []; flags = [] }
 -- `NUMBER COUNT`
 abbrev pub make_row : Row
 make_row = record { places = number_name ∷ count_name ∷ []; options = []; flags = [] }
+
+-- `NUMBER COUNT` and `--ideal`
+abbrev pub run_row : Row
+run_row = record { places = number_name ∷ count_name ∷ []; options = []; flags = ideal_name ∷ [] }
 
 -- `--ticks T`, `--readers N`, `--reads M`, `--back` and `--crank`
 abbrev pub replay_row : Row
@@ -81,6 +88,10 @@ most_reads = 16384
 abbrev pub most_made : ℕ
 most_made = 16384
 
+-- the most stamps that are made for a run
+abbrev pub most_ran : ℕ
+most_ran = 4096
+
 -- the numbers that options give: 4 plain steps between two estimates where the words do not tell, 2 readers, and 100 readings of each
 abbrev pub ticks_told : List Item → Option ℕ
 ticks_told items = option_within 0 most_ticks 4 (value_of ticks_name items)
@@ -103,9 +114,17 @@ replay_by back crank n readers reads = option_map (λ n. command.Report (report.
 abbrev pub replay_of : List Item → Option Command
 replay_of items = replay_by (is_given back_name items) (is_given crank_name items) (ticks_told items) (readers_told items) (reads_told items)
 
+-- the two numbers that places give: one below 2^32, and a count from 1 to `most`
+abbrev pub places_told : ℕ → List Item → Option (ℕ × ℕ)
+places_told most items = option_zip (place_within 0 (2 ^ 32 - 1) (value_of number_name items)) (place_within 1 most (value_of count_name items))
+
 -- `make`: a number below 2^32, and a count from 1 to 16,384
 abbrev pub make_of : List Item → Option Command
-make_of items = option_map (λ p. command.Make p.0 p.1) (option_zip (place_within 0 (2 ^ 32 - 1) (value_of number_name items)) (place_within 1 most_made (value_of count_name items)))
+make_of items = option_map (λ p. command.Make p.0 p.1) (places_told most_made items)
+
+-- `run`: a number below 2^32, a count from 1 to 4,096, and whether its flag is given
+abbrev pub run_of : List Item → Option Command
+run_of items = option_map (λ p. command.Run p.0 p.1 (is_given ideal_name items)) (places_told most_ran items)
 
 -- a report that has nothing behind its name
 abbrev pub bare_in : Report → List Text → Option Command
@@ -120,9 +139,16 @@ replay_in words = option_and_then replay_of (items_in replay_row words)
 abbrev pub make_in : List Text → Option Command
 make_in words = option_and_then make_of (items_in make_row words)
 
+-- the flag of `run` stands in front of a number
+abbrev pub ideal_is_early : List Text → Bool
+ideal_is_early words = has (take 2 words) (dashed ideal_name)
+
+abbrev pub run_in : List Text → Option Command
+run_in words = if ideal_is_early words then None else option_and_then run_of (items_in run_row words)
+
 -- the names of the commands
 abbrev pub command_names : List Text
-command_names = codes "stamps" ∷ codes "rtt" ∷ codes "estimate" ∷ codes "ticks" ∷ codes "replay" ∷ codes "make" ∷ []
+command_names = codes "stamps" ∷ codes "rtt" ∷ codes "estimate" ∷ codes "ticks" ∷ codes "replay" ∷ codes "make" ∷ codes "run" ∷ []
 
 -- words begin with the name of a command
 abbrev pub begins_with_name : List Text → Bool
@@ -138,7 +164,8 @@ command_named name words =
     else (if bytes_eq name (codes "ticks") then ticks_in words
     else (if bytes_eq name (codes "replay") then replay_in words
     else (if bytes_eq name (codes "make") then make_in words
-    else None)))))
+    else (if bytes_eq name (codes "run") then run_in words
+    else None))))))
 
 -- the command that words are, if they are a line
 unfoldable pub command_in : List Text → Option Command
@@ -154,6 +181,8 @@ pub data IsLine : List Text → Command → Type 0 where
   replay : (words : List Text) (items : List Item) (n readers reads : ℕ) → AreWritten replay_row words items → ticks_told items ≡ Some n → readers_told items ≡ Some readers → reads_told items ≡ Some reads
       → IsLine (codes "replay" ∷ words) (command.Report (report.Replay n readers reads (is_given back_name items) (is_given crank_name items)))
   make : (first second : Text) (number count : ℕ) → number_within 0 (2 ^ 32 - 1) first ≡ Some number → number_within 1 most_made second ≡ Some count → IsLine (codes "make" ∷ first ∷ second ∷ []) (command.Make number count)
+  run : (first second : Text) (number count : ℕ) → number_within 0 (2 ^ 32 - 1) first ≡ Some number → number_within 1 most_ran second ≡ Some count → IsLine (codes "run" ∷ first ∷ second ∷ []) (command.Run number count false)
+  ideal_run : (first second : Text) (number count : ℕ) → number_within 0 (2 ^ 32 - 1) first ≡ Some number → number_within 1 most_ran second ≡ Some count → IsLine (codes "run" ∷ first ∷ second ∷ codes "--ideal" ∷ []) (command.Run number count true)
 
 -- what is found is the command of a line, and nothing where words are no line
 abbrev pub IsCommandOf : List Text → Option Command → Type 0
@@ -171,3 +200,4 @@ IsReportInRange (report.Replay n readers reads back crank) = (n ≤ most_ticks) 
 abbrev pub IsCommandInRange : Command → Type 0
 IsCommandInRange (command.Report r) = IsReportInRange r
 IsCommandInRange (command.Make number count) = (number < 2 ^ 32) × (1 ≤ count) × (count ≤ most_made)
+IsCommandInRange (command.Run number count ideal) = (number < 2 ^ 32) × (1 ≤ count) × (count ≤ most_ran)

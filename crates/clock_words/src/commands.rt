@@ -36,5 +36,16 @@ pub enum Command {
     /// A report on the stamp file that is the input.
     Report(Report),
     /// A file of so many made stamps, from 1 to 16,384, that are drawn from a number below 2^32.
-    Make { number: u64, count: u32 },
+    Make {
+        number: u64,
+        count: u32,
+    },
+    /// A replay of so many made stamps, from 1 to 4,096, that are drawn from a number below 2^32, and
+    /// a summary of it.
+    Run {
+        number: u64,
+        count: u32,
+        /// The summary also says how far the clock was from the truth.
+        ideal: bool,
+    },
 }

@@ -2,9 +2,10 @@
 ghost use Rattle.std.specs.Prelude.{◌≡◌, ◌≤◌, ◌<◌, ◌^◌, ◌-◌, IfOk, IfErr, OnErr, IfSome, true, option_map};
 ghost use Rattle.clap.specs.Values.{kind_of};
 ghost use Rattle.clock_words.specs.Rows.{has, texts};
-ghost use Rattle.clock_words.specs.Lines.{IsCommandOf, IsCommandInRange, IsReportInRange, bare_in, ticks_in, replay_in, make_in, number_within, option_within, command_names, begins_with_name, command_named, command_in};
+ghost use Rattle.clock_words.specs.Lines.{IsCommandOf, IsCommandInRange, IsReportInRange, bare_in, ticks_in, replay_in, make_in, run_in, ideal_is_early, number_within, option_within, places_told, command_names, begins_with_name, command_named, command_in};
 
-use crate::{Command, Report, rows};
+use crate::rows::{self, Arguments};
+use crate::{Command, Report};
 use clap::Error;
 use clap::error::ErrorKind;
 use ff_grain::NoMemory;
@@ -34,6 +35,9 @@ const MOST_NUMBER: u64 = 4_294_967_295;
 
 /// The most stamps that are made.
 const MOST_MADE: u64 = 16_384;
+
+/// The most stamps that are made for a run.
+const MOST_RAN: u64 = 4096;
 
 // The number that a text is, from `least` to `most`.
 fn number_within(least: u64, most: u64, text: &str) -> Option<u64>
@@ -113,6 +117,24 @@ fn replay<'a>(alloc: Global, words: &'a [&'a str]) -> Result<Option<Command>, Er
     }
 }
 
+// The number and the count, from 1 to `most`, in the places of a command.
+fn places<'a>(arguments: &Arguments<'a>, most: u64) -> Option<(u64, u64)>
+    requires { most < 2 ^ 64 - 1 }
+    ensures value { result ≡ places_told most arguments.now }
+    ensures within { IfSome result (λ p. (p.0 < 2 ^ 32) × (1 ≤ p.1) × (p.1 ≤ most)) }
+{
+    let (Some(number), Some(count)) = (arguments.value("NUMBER"), arguments.value("COUNT")) else {
+        return None;
+    };
+    match (
+        number_within(0, MOST_NUMBER, number),
+        number_within(1, most, count),
+    ) {
+        (Some(number), Some(count)) => Some((number, count)),
+        _ => None,
+    }
+}
+
 fn make<'a>(alloc: Global, words: &'a [&'a str]) -> Result<Option<Command>, Error>
     ensures value { IfOk result (λ found. found ≡ make_in (texts words.entry.now)) }
     ensures ranged { IfOk result (λ found. IfSome found IsCommandInRange) }
@@ -121,18 +143,41 @@ fn make<'a>(alloc: Global, words: &'a [&'a str]) -> Result<Option<Command>, Erro
     let Some(arguments) = rows::make(alloc, words)? else {
         return Ok(None);
     };
-    let (Some(number), Some(count)) = (arguments.value("NUMBER"), arguments.value("COUNT")) else {
-        return Ok(None);
-    };
-    match (
-        number_within(0, MOST_NUMBER, number),
-        number_within(1, MOST_MADE, count),
-    ) {
-        (Some(number), Some(count)) => Ok(Some(Command::Make {
+    match places(&arguments, MOST_MADE) {
+        Some((number, count)) => Ok(Some(Command::Make {
             number,
             count: count as u32,
         })),
-        _ => Ok(None),
+        None => Ok(None),
+    }
+}
+
+// The flag of `run` stands in front of a number.
+fn ideal_is_early(words: &[&str]) -> bool
+    ensures { result ≡ ideal_is_early (texts words.now) }
+{
+    words.iter().take(2).any(|word| *word == "--ideal")
+}
+
+// `clap` takes a flag in any place; this one stands last.
+fn run<'a>(alloc: Global, words: &'a [&'a str]) -> Result<Option<Command>, Error>
+    ensures value { IfOk result (λ found. found ≡ run_in (texts words.entry.now)) }
+    ensures ranged { IfOk result (λ found. IfSome found IsCommandInRange) }
+    ensures memory { IfErr result (λ e. kind_of e ≡ ErrorKind.OutOfMemory) }
+{
+    if ideal_is_early(words) {
+        return Ok(None);
+    }
+    let Some(arguments) = rows::run(alloc, words)? else {
+        return Ok(None);
+    };
+    match places(&arguments, MOST_RAN) {
+        Some((number, count)) => Ok(Some(Command::Run {
+            number,
+            count: count as u32,
+            ideal: arguments.flag("ideal"),
+        })),
+        None => Ok(None),
     }
 }
 
@@ -154,6 +199,7 @@ fn command_named<'a>(
         "ticks" => ticks(alloc, words),
         "replay" => replay(alloc, words),
         "make" => make(alloc, words),
+        "run" => run(alloc, words),
         _ => Ok(None),
     }
 }

@@ -26,3 +26,6 @@ base_made s w i a b c f end = piece _ i _ ∙ column _ s a _ ∙ column _ s b _ 
 
 pub reading_made : (s k a b t d behind : List ℕ) → k ++ (s ++ a ++ (s ++ b ++ (s ++ t ++ (s ++ (d ++ behind))))) ≡ k ++ s ++ a ++ s ++ b ++ s ++ t ++ s ++ d ++ behind
 reading_made s k a b t d behind = column _ s a _ ∙ column _ s b _ ∙ column _ s t _ ∙ piece _ s _ ∙ piece _ d behind
+
+pub summary_made : (w1 w2 w3 w4 w5 a b c d e end : List ℕ) → w1 ++ (a ++ (w2 ++ (b ++ (w3 ++ (c ++ (w4 ++ (d ++ (w5 ++ (e ++ end))))))))) ≡ w1 ++ a ++ w2 ++ b ++ w3 ++ c ++ w4 ++ d ++ w5 ++ e ++ end
+summary_made w1 w2 w3 w4 w5 a b c d e end = piece _ a _ ∙ piece _ w2 _ ∙ piece _ b _ ∙ piece _ w3 _ ∙ piece _ c _ ∙ piece _ w4 _ ∙ piece _ d _ ∙ piece _ w5 _ ∙ piece _ e end

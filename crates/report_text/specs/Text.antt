@@ -23,6 +23,7 @@ use Rattle.stamp_maker.specs.declared.made.Made.{Made}
 use Rattle.report_text.specs.declared.lines.ReportHead.{ReportHead}
 use Rattle.report_text.specs.declared.lines.ReportHead.TheVariants as head
 use Rattle.report_text.specs.declared.lines.EndCounts.{EndCounts}
+use Rattle.report_text.specs.declared.lines.Summary.{Summary}
 use Rattle.report_text.specs.declared.lines.Limit.{Limit}
 use Rattle.report_text.specs.declared.lines.Limit.TheVariants as limit
 use Rattle.report_text.specs.declared.lines.FaultText.{FaultText}
@@ -47,6 +48,7 @@ head_text (head.Rtt freq) = codes "report rtt freq " ++ decimal freq ++ codes "\
 head_text (head.Estimate freq) = codes "report estimate freq " ++ decimal freq ++ codes "\n"
 head_text (head.Ticks freq ticks) = codes "report ticks freq " ++ decimal freq ++ codes " ticks " ++ decimal ticks ++ codes "\n"
 head_text (head.Replay freq ticks readers reads back crank) = codes "report replay freq " ++ decimal freq ++ options_part ticks readers reads back crank ++ codes "\n"
+head_text (head.Run number count ideal) = codes "report run number " ++ decimal number ++ codes " count " ++ decimal count ++ mark_text (codes " ideal") ideal ++ codes "\n"
 
 -- the line of an accepted stamp, with its round trip
 unfoldable pub stamp_text : ℕ → Stamp → List ℕ
@@ -146,6 +148,14 @@ entry_text reader k (entry.Ahead count at) = codes "ahead " ++ attempt_part read
 abbrev pub count_text : List ℕ → Option ℕ → List ℕ
 count_text word None = []
 count_text word (Some n) = word ++ decimal n
+
+-- the line of a summary
+unfoldable pub summary_text : Summary → List ℕ
+summary_text s = codes "summary accepted " ++ decimal s.accepted ++ codes " refused " ++ decimal s.refused ++ codes " shifts " ++ decimal s.shifts ++ codes " predicted " ++ decimal s.predicted ++ codes " local " ++ decimal s.local ++ codes "\n"
+
+-- the line of a tick, with its distance from the truth and the bound that is told of it
+unfoldable pub ideal_text : ℕ → ℕ → ℕ → List ℕ
+ideal_text tick distance bound = codes "ideal " ++ decimal tick ++ codes " " ++ decimal distance ++ codes " " ++ decimal bound ++ codes "\n"
 
 -- the last line of a report
 unfoldable pub end_text : EndCounts → List ℕ

@@ -1,7 +1,7 @@
 // The kinds of line, each made from its end. A line's push fails exactly where the sink's push of its
 // text does.
 ghost use Rattle.std.specs.Prelude.{◌≡◌, ◌≤◌, ◌+◌, ◌++◌, length};
-ghost use Rattle.report_text.specs.Text.{options_part, head_text, stamp_text, base_text, time_part, spread_part, estimate_text, clock_part, given_part, leap_part, tick_text, refused_text, end_text, fault_text};
+ghost use Rattle.report_text.specs.Text.{options_part, head_text, stamp_text, base_text, time_part, spread_part, estimate_text, clock_part, given_part, leap_part, tick_text, refused_text, summary_text, ideal_text, end_text, fault_text};
 
 use crate::line::LineText;
 use crate::names::{add_how, add_marks, limit_name, refused_name, why_name};
@@ -42,6 +42,28 @@ pub enum ReportHead {
         /// A crank raises the counter beside the one who winds.
         crank: bool,
     },
+    /// The summary of a run over so many made stamps, which a number tells.
+    Run {
+        number: u64,
+        count: u32,
+        /// The summary also says how far the clock was from the truth.
+        ideal: bool,
+    },
+}
+
+/// What the summary of a run counts.
+#[derive(Clone, Copy, Debug, PartialEq, Eq)]
+pub struct Summary {
+    /// Accepted stamps.
+    pub accepted: u64,
+    /// Refused stamps.
+    pub refused: u64,
+    /// Estimates at which the base of the round trips shifted upward.
+    pub shifts: u64,
+    /// Estimates whose time was predicted from the one before.
+    pub predicted: u64,
+    /// Estimates that went by the local rate.
+    pub local: u64,
 }
 
 /// What the end line counts. Ticks and entries are told where a report has them.
@@ -143,6 +165,17 @@ fn head(h: ReportHead) -> LineText
             add_options_part(&mut line, ticks, readers, reads, back, crank);
             line.number(freq);
             line.word(b"report replay freq ");
+        }
+        ReportHead::Run {
+            number,
+            count,
+            ideal,
+        } => {
+            line.mark(b" ideal", ideal);
+            line.number(u64::from(count));
+            line.word(b" count ");
+            line.number(number);
+            line.word(b"report run number ");
         }
     }
     line
@@ -317,6 +350,48 @@ pub fn refused_line<K: Sink>(sink: &mut K, line: u64, why: Refused) -> Result<()
     text.number(line);
     text.word(b"refused ");
     sink.push(text.bytes())
+}
+
+/// Pushes the summary of a run.
+#[tactic(auto, unfolding(crate::specs::Text::summary_text))]
+pub fn summary_line<K: Sink>(sink: &mut K, s: &Summary) -> Result<(), Failed>
+    ensures { K.push_gives sink.old (summary_text s.now) result sink.new }
+{
+    let mut line = LineText::new();
+    line.word(b"\n");
+    line.number(s.local);
+    line.word(b" local ");
+    line.number(s.predicted);
+    line.word(b" predicted ");
+    line.number(s.shifts);
+    line.word(b" shifts ");
+    line.number(s.refused);
+    line.word(b" refused ");
+    line.number(s.accepted);
+    line.word(b"summary accepted ");
+    sink.push(line.bytes())
+}
+
+/// Pushes the line of the tick with the number `tick`, from 0, with the distance of its time from the
+/// truth and the bound that is told of it, both in grains.
+#[tactic(auto, unfolding(crate::specs::Text::ideal_text))]
+pub fn ideal_line<K: Sink>(
+    sink: &mut K,
+    tick: u64,
+    distance: u128,
+    bound: u128,
+) -> Result<(), Failed>
+    ensures { K.push_gives sink.old (ideal_text tick distance bound) result sink.new }
+{
+    let mut line = LineText::new();
+    line.word(b"\n");
+    line.wide(bound);
+    line.word(b" ");
+    line.wide(distance);
+    line.word(b" ");
+    line.number(tick);
+    line.word(b"ideal ");
+    sink.push(line.bytes())
 }
 
 /// Pushes the end line.
