@@ -1,5 +1,5 @@
 -- What follows from how a run ends.
-use Rattle.std.proofs.Common.{◌≡◌, ◌⊎◌, ℕ, ◌≤◌, Bool, true, false, List, [], ◌++◌, Option, None, Some, Result, Ok, Err, OnOk, OnErr, length, refl, sym, ap, ◌∙◌, subst, arith, append-nil, inl, inr}
+use Rattle.std.proofs.Common.{◌≡◌, ◌⊎◌, ℕ, ◌≤◌, Bool, true, false, List, [], ◌++◌, Option, None, Some, Result, Ok, Err, OnOk, OnErr, length, refl, sym, ap, ap₂, ◌∙◌, subst, arith, append-nil, inl, inr}
 use Rattle.std.specs.List.{concat}
 use Rattle.std.specs.Option.{option_map}
 use Rattle.std.specs.Io.KnownBytes.{Appends, Consumes, IsAtEnd}
@@ -18,10 +18,12 @@ use Rattle.tick_desk.specs.declared.desk.Desk.{Desk}
 use Rattle.replay_run.specs.declared.plan.Options.{Options}
 use Rattle.radclock.specs.Inputs.{stamps_in, takes_few, accepted_among, accepts_many, stop_by, first_stop, stop_of_file, freq_of_file, stamps_of_file}
 use Rattle.radclock.specs.Readings.{StopsInPiece, StopsAtEnd, Stops}
-use Rattle.radclock.specs.Runs.{Comes, no_line, no_memory, made, stopped, read, EndsWith, Ends, EndsInBlocks, LeavesAt, WasDone, WasRead, reported, filed, replay_by, Headline, MakesNone, WasFree}
+use Rattle.radclock.specs.MadeRuns.{run_by}
+use Rattle.radclock.specs.Runs.{Comes, no_line, no_memory, made, ran, ran_short, stopped, read, EndsWith, Ends, EndsInBlocks, LeavesAt, WasDone, WasRead, reported, filed, summarised, replay_by, Headline, RunHeadline, MakesNone, WasFree}
 use Rattle.radclock.specs.Statuses.{status_of, status_by}
 use Rattle.radclock.specs.declared.inputs.Stop.{Stop}
 use Rattle.radclock.specs.declared.inputs.Stop.TheVariants as stop
+use Rattle.radclock.specs.declared.ran.Asked.{Asked}
 use Rattle.radclock.specs.declared.status.Status.{Status}
 use Rattle.radclock.specs.declared.status.Status.TheVariants as status
 use Rattle.radclock.proofs.Accepting.{by_order, are-few}
@@ -62,6 +64,8 @@ due-by-input : {S : Type 0} (left : S → Option (List ℕ)) (faults : S → ℕ
 due-by-input left faults pull words old new desk desk' due lines asked all line told free (no_line none same stays) = absurd (cc)
 due-by-input left faults pull words old new desk desk' due lines asked all line told free (no_memory same stays) = inr refl
 due-by-input left faults pull words old new desk desk' due lines asked all line told free (made number count is same stays) = absurd (cc)
+due-by-input left faults pull words old new desk desk' due lines asked all line told free (ran a is same farthest leaves) = absurd (cc)
+due-by-input left faults pull words old new desk desk' due lines asked all line told free (ran_short a is same leaves) = absurd (cc)
 due-by-input left faults pull words old new desk desk' due lines asked all line told free (stopped r is s stops leaves) =
     let same : r ≡ asked = cc in
     stops-by-input (takes_few asked) left faults pull old new s all told free (subst (λ r. Stops (takes_few r) left faults pull old s new) same stops)
@@ -74,14 +78,28 @@ due-made : {S : Type 0} (left : S → Option (List ℕ)) (faults : S → ℕ) (p
 due-made left faults pull words old new desk desk' due lines number count line (no_line none same stays) = absurd (cc)
 due-made left faults pull words old new desk desk' due lines number count line (no_memory same stays) = inr refl
 due-made left faults pull words old new desk desk' due lines number count line (made n c is same stays) = inl refl
+due-made left faults pull words old new desk desk' due lines number count line (ran a is same told leaves) = absurd (cc)
+due-made left faults pull words old new desk desk' due lines number count line (ran_short a is same leaves) = absurd (cc)
 due-made left faults pull words old new desk desk' due lines number count line (stopped r is s stops leaves) = absurd (cc)
 due-made left faults pull words old new desk desk' due lines number count line (read r is text reached sound leaves) = absurd (cc)
+
+-- what is due of a run over made stamps
+due-ran : {S : Type 0} (left : S → Option (List ℕ)) (faults : S → ℕ) (pull : S → List ℕ → Result ℕ Failed → List ℕ → S → Type 0) (words : List (List ℕ)) (old new : S) (desk desk' : Desk) (due : Status) (lines : List (List ℕ)) (a : Asked) → command_in words ≡ Some (run_by a) → Comes left faults pull words old new desk desk' due lines → (due ≡ status.Done) ⊎ (due ≡ status.NoMemory)
+due-ran left faults pull words old new desk desk' due lines a line (no_line none same stays) = absurd (cc)
+due-ran left faults pull words old new desk desk' due lines a line (no_memory same stays) = inr refl
+due-ran left faults pull words old new desk desk' due lines a line (made n c is same stays) = absurd (cc)
+due-ran left faults pull words old new desk desk' due lines a line (ran b is same told leaves) = inl refl
+due-ran left faults pull words old new desk desk' due lines a line (ran_short b is same leaves) = inr refl
+due-ran left faults pull words old new desk desk' due lines a line (stopped r is s stops leaves) = absurd (cc)
+due-ran left faults pull words old new desk desk' due lines a line (read r is text reached sound leaves) = absurd (cc)
 
 -- what is due where the words are no line
 due-none : {S : Type 0} (left : S → Option (List ℕ)) (faults : S → ℕ) (pull : S → List ℕ → Result ℕ Failed → List ℕ → S → Type 0) (words : List (List ℕ)) (old new : S) (desk desk' : Desk) (due : Status) (lines : List (List ℕ)) → command_in words ≡ None → Comes left faults pull words old new desk desk' due lines → (due ≡ status.Usage) ⊎ (due ≡ status.NoMemory)
 due-none left faults pull words old new desk desk' due lines line (no_line none same stays) = inl refl
 due-none left faults pull words old new desk desk' due lines line (no_memory same stays) = inr refl
 due-none left faults pull words old new desk desk' due lines line (made n c is same stays) = absurd (cc)
+due-none left faults pull words old new desk desk' due lines line (ran a is same told leaves) = absurd (cc)
+due-none left faults pull words old new desk desk' due lines line (ran_short a is same leaves) = absurd (cc)
 due-none left faults pull words old new desk desk' due lines line (stopped r is s stops leaves) = absurd (cc)
 due-none left faults pull words old new desk desk' due lines line (read r is text reached sound leaves) = absurd (cc)
 
@@ -101,6 +119,10 @@ module _ {S K : Type 0} (left : S → Option (List ℕ)) (pull_faults : S → �
   -- and one that makes a file is done
   pub made-by : (number count : ℕ) → command_in words ≡ Some (command.Make number count) → WasFree (push_faults sink) (push_faults sink') → (result ≡ status.Done) ⊎ (result ≡ status.NoMemory)
   made-by number count line free = by-due _ (due-made left pull_faults pull words source source' desk desk' due lines number count line comes) free
+
+  -- and so is one over made stamps
+  pub ran-by : (a : Asked) → command_in words ≡ Some (run_by a) → WasFree (push_faults sink) (push_faults sink') → (result ≡ status.Done) ⊎ (result ≡ status.NoMemory)
+  ran-by a line free = by-due _ (due-ran left pull_faults pull words source source' desk desk' due lines a line comes) free
 
   -- words that are no line are told, but for want of memory
   pub usage-by : command_in words ≡ None → (result ≡ status.Usage) ⊎ ((result ≡ status.WriteFault) ⊎ (result ≡ status.NoMemory))
@@ -155,6 +177,8 @@ done-of : {S : Type 0} (left : S → Option (List ℕ)) (faults : S → ℕ) (pu
 done-of left faults pull words old new desk desk' written written' due lines (no_line none same stays) is wrote = absurd (cc)
 done-of left faults pull words old new desk desk' written written' due lines (no_memory same stays) is wrote = absurd (cc)
 done-of left faults pull words old new desk desk' written written' due lines (made number count line same stays) is wrote = filed number count line (ap left same) stays wrote
+done-of left faults pull words old new desk desk' written written' due lines (ran a line same told leaves) is wrote = summarised a line (ap left same) told leaves wrote
+done-of left faults pull words old new desk desk' written written' due lines (ran_short a line same leaves) is wrote = absurd (cc)
 done-of left faults pull words old new desk desk' written written' due lines (stopped r line s stops leaves) is wrote = absurd (not-done s is)
 done-of left faults pull words old new desk desk' written written' due lines (read r line text reached sound leaves) is wrote =
     let within = is-sound (takes_few r) text sound in
@@ -210,6 +234,8 @@ none-of : {S : Type 0} (left : S → Option (List ℕ)) (faults : S → ℕ) (pu
 none-of left faults pull words old new desk desk' due lines (no_line none same stays) not = ap (λ (d : Desk). d.pen.journal) stays
 none-of left faults pull words old new desk desk' due lines (no_memory same stays) not = ap (λ (d : Desk). d.pen.journal) stays
 none-of left faults pull words old new desk desk' due lines (made number count line same stays) not = absurd not
+none-of left faults pull words old new desk desk' due lines (ran a line same told leaves) not = absurd not
+none-of left faults pull words old new desk desk' due lines (ran_short a line same leaves) not = leaves
 none-of left faults pull words old new desk desk' due lines (stopped r line s stops leaves) not = stop-leaves s desk desk' leaves
 none-of left faults pull words old new desk desk' due lines (read r line text reached sound leaves) not = absurd not
 
@@ -228,3 +254,16 @@ headline-of left left' written written' desk desk' words o line (reported r is w
     let done : WasRead left left' written written' desk desk' (replay_by o) = subst (WasRead left left' written written' desk desk') same was in
     record { text = done.text; bytes = done.bytes; ended = done.ended; sound = done.sound; printed = done.wrote; replayed = done.leaves }
 headline-of left left' written written' desk desk' words o line (filed number count is same stays wrote) = absurd (cc)
+headline-of left left' written written' desk desk' words o line (summarised a is same told leaves wrote) = absurd (cc)
+
+-- and what a done run over made stamps did
+pub run-headline-of : (left left' written written' : Option (List ℕ)) (desk desk' : Desk) (words : List (List ℕ)) (a : Asked) → command_in words ≡ Some (run_by a) → WasDone left left' written written' desk desk' words → RunHeadline left left' written written' a desk'.pen
+run-headline-of left left' written written' desk desk' words a line (reported r is was) = absurd (cc)
+run-headline-of left left' written written' desk desk' words a line (filed number count is same stays wrote) = absurd (cc)
+run-headline-of left left' written written' desk desk' words a line (summarised b is same told leaves wrote) =
+    let asked : ℕ → ℕ → Bool → Asked = λ n k i. record { number = n; count = k; ideal = i } in
+    let number : b.number ≡ a.number = cc in
+    let count : b.count ≡ a.count = cc in
+    let ideal : b.ideal ≡ a.ideal = cc in
+    let one : b ≡ a = ap₂ (λ n k. asked n k b.ideal) number count ∙ ap (asked a.number a.count) ideal in
+    subst (λ c. RunHeadline left left' written written' c desk'.pen) one (record { unread = same; told = told; printed = wrote; made = leaves })

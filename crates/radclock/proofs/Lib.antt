@@ -10,6 +10,8 @@ pub mod Fulls
 pub mod Counted
 pub mod Listing
 pub mod Replaying
+pub mod Making
 pub mod Filing
 pub mod Playing
 pub mod Told
+pub mod Truth

@@ -2,9 +2,11 @@ pub mod Inputs
 pub mod Readings
 pub mod Replays
 pub mod Reports
+pub mod MadeRuns
 pub mod Tellings
 pub mod Gathered
 pub mod Journals
 pub mod Tallies
 pub mod Statuses
 pub mod Runs
+pub mod Truth

@@ -15,6 +15,7 @@ mod listings;
 mod make;
 mod output;
 mod plays;
+mod ran;
 mod reading;
 mod replay;
 mod reports;

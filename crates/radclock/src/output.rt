@@ -7,8 +7,11 @@ ghost use Rattle.clock_words.specs.declared.commands.Report.{Report};
 ghost use Rattle.replay_run.specs.declared.plan.Options.{Options};
 ghost use Rattle.tick_desk.specs.Shows.{IsFresh};
 ghost use Rattle.radclock.specs.Inputs.{stop_of_file, takes_few};
-ghost use Rattle.radclock.specs.Runs.{EndsInBlocks, Headline, MakesNone, WasDone, WasFree, replay_by};
+ghost use Rattle.radclock.specs.MadeRuns.{run_by};
+ghost use Rattle.radclock.specs.declared.ran.Asked.{Asked};
+ghost use Rattle.radclock.specs.Runs.{EndsInBlocks, Headline, MakesNone, RunHeadline, WasDone, WasFree, replay_by};
 ghost use Rattle.radclock.specs.Statuses.{status_by};
+ghost use Rattle.radclock.specs.Truth.{MadeTruth, Truth};
 
 use crate::run::run;
 use crate::status::Status;
@@ -54,14 +57,26 @@ where
         WasDone (S.left source.old) (S.left source.new) (K.written sink) (K.written r.1)
         desk.old desk.new (map (λ w. w.now) words.entry.now)) }
 
-    // What a replay printed and left, and where no tick was made.
+    // What a replay, and a run over made stamps, printed and left, that what was told is true, and where no
+    // tick was made.
     ensures headline { IfOk result (λ r. (options : Options) → r.0 ≡ Status.Done →
         command_in (map (λ w. w.now) words.entry.now) ≡ Some (command.Report (replay_by options)) →
         Headline (S.left source.old) (S.left source.new) (K.written sink) (K.written r.1)
         options desk.new.pen) }
+    ensures summary { IfOk result (λ r. (a : Asked) → r.0 ≡ Status.Done →
+        command_in (map (λ w. w.now) words.entry.now) ≡ Some (run_by a) →
+        RunHeadline (S.left source.old) (S.left source.new) (K.written sink) (K.written r.1)
+        a desk.new.pen) }
+    ensures truth { IfOk result (λ r. (asked : Report) → r.0 ≡ Status.Done →
+        command_in (map (λ w. w.now) words.entry.now) ≡ Some (command.Report asked) →
+        Truth (S.left source.old) (S.left source.new) (K.written sink) (K.written r.1)
+        asked desk.new.pen) }
+    ensures made_truth { IfOk result (λ r. (a : Asked) → r.0 ≡ Status.Done →
+        command_in (map (λ w. w.now) words.entry.now) ≡ Some (run_by a) →
+        MadeTruth a desk.new.pen) }
     ensures none { IfOk result (λ r. MakesNone r.0 → desk.new.pen.journal ≡ cold ∷ []) }
 
-    // The words decide alone where they are no line or ask for a made file, and else the input, where
+    // The words decide alone where they are no line or ask for made stamps, and else the input, where
     // nothing else interferes and memory is there.
     ensures usage { IfOk result (λ r. command_in (map (λ w. w.now) words.entry.now) ≡ None →
         (r.0 ≡ Status.Usage) ⊎ ((r.0 ≡ Status.WriteFault) ⊎ (r.0 ≡ Status.NoMemory))) }
@@ -72,6 +87,10 @@ where
         (r.0 ≡ status_by (stop_of_file (takes_few asked) text)) ⊎ (r.0 ≡ Status.NoMemory)) }
     ensures made { IfOk result (λ r. (number count : ℕ) →
         command_in (map (λ w. w.now) words.entry.now) ≡ Some (command.Make number count) →
+        WasFree (K.faults sink) (K.faults r.1) →
+        (r.0 ≡ Status.Done) ⊎ (r.0 ≡ Status.NoMemory)) }
+    ensures ran { IfOk result (λ r. (a : Asked) →
+        command_in (map (λ w. w.now) words.entry.now) ≡ Some (run_by a) →
         WasFree (K.faults sink) (K.faults r.1) →
         (r.0 ≡ Status.Done) ⊎ (r.0 ≡ Status.NoMemory)) }
 

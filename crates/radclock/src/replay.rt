@@ -1,9 +1,11 @@
 // The command `replay`.
-ghost use Rattle.std.specs.Prelude.{◌≡◌, [], IfOk};
+ghost use Rattle.std.specs.Prelude.{◌≡◌, ◌≤◌, ℕ, List, [], IfOk};
+ghost use Rattle.stamp_text.specs.declared.lines.Stamp.{Stamp};
 ghost use Rattle.ff_estimator.specs.Daemons.{StandsFor};
 ghost use Rattle.tick_desk.specs.Shows.{IsFresh};
 ghost use Rattle.radclock.specs.Inputs.{IsRanged, accepted_among};
 ghost use Rattle.replay_run.specs.Plans.{AreOptionsInRange};
+ghost use Rattle.replay_run.specs.declared.plan.Options.{Options};
 ghost use Rattle.radclock.specs.Replays.{IsPlanFor, IsReadyFor, ArePrinted};
 ghost use Rattle.radclock.specs.Reports.{report_of};
 ghost use Rattle.radclock.specs.Runs.{EndsWith, Finishes, replay_by};
@@ -50,6 +52,23 @@ fn plan_for_file<L: Ledger>(
     Plan::of(alloc, file.freq, &fulls, options)
 }
 
+/// Takes the memory that the play of a plan wants of a desk with which nothing was done: room for its
+/// ticks, and the readers' logs with their passes. No tick is made.
+pub fn open(alloc: Global, desk: &mut Desk, plan: &Plan) -> Result<Vec<ReadLog>, NoMemory>
+    requires readers { plan.now.options.readers ≤ 16 }
+    requires fresh { IsFresh desk.old.pen desk.old.passes.items }
+    ensures ready { IfOk result (λ logs. (freq : ℕ) (options : Options) (all : List Stamp) →
+        IsPlanFor freq options all plan.now →
+        IsReadyFor freq options all plan.now logs.items desk.new.pen) }
+    ensures journal { desk.new.pen.journal ≡ desk.old.pen.journal }
+{
+    // Nothing was done with the desk, so no pass was taken in either.
+    prove!(desk.is_fresh());
+    desk.pen.reserve(plan.steps.len())?;
+    desk.passes(alloc, plan.options.readers)?;
+    ReadLog::all(alloc, desk, plan)
+}
+
 // Takes all memory that a replay wants. No tick is made.
 fn prepare<L: Ledger>(
     alloc: Global,
@@ -66,13 +85,9 @@ fn prepare<L: Ledger>(
     ensures daemon { IfOk result (λ r. StandsFor r.daemon file.now.freq []) }
     ensures journal { desk.new.pen.journal ≡ desk.old.pen.journal }
 {
-    // Nothing was done with the desk, so no pass was taken in either.
-    prove!(desk.is_fresh());
     let plan = plan_for_file(alloc, file, options, steps)?;
     let daemon = Daemon::new(alloc, file.freq)?;
-    desk.pen.reserve(plan.steps.len())?;
-    desk.passes(alloc, plan.options.readers)?;
-    let logs = ReadLog::all(alloc, desk, &plan)?;
+    let logs = open(alloc, desk, &plan)?;
     Ok(Ready { plan, logs, daemon })
 }
 

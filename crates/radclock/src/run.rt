@@ -7,12 +7,15 @@ ghost use Rattle.clock_words.specs.declared.commands.Report.{Report};
 ghost use Rattle.replay_run.specs.declared.plan.Options.{Options};
 ghost use Rattle.tick_desk.specs.Shows.{IsFresh};
 ghost use Rattle.radclock.specs.Inputs.{IsRanged, stop_of_file, takes_few};
+ghost use Rattle.radclock.specs.MadeRuns.{run_by};
+ghost use Rattle.radclock.specs.declared.ran.Asked.{Asked};
 ghost use Rattle.stamp_maker.specs.MadeStamps.{made_list};
 ghost use Rattle.report_text.specs.MadeFiles.{file_lines_of};
 ghost use Rattle.radclock.specs.Reports.{outcomes, ticks_text};
 ghost use Rattle.radclock.specs.Tellings.{report};
-ghost use Rattle.radclock.specs.Runs.{Ends, EndsWith, Finishes, Headline, MakesNone, WasDone, WasFree, replay_by};
+ghost use Rattle.radclock.specs.Runs.{Ends, EndsWith, Finishes, Headline, MakesNone, RunHeadline, WasDone, WasFree, replay_by};
 ghost use Rattle.radclock.specs.Statuses.{status_by};
+ghost use Rattle.radclock.specs.Truth.{MadeTruth, Truth};
 
 use crate::bases::Bases;
 use crate::estimates::Estimates;
@@ -20,6 +23,7 @@ use crate::faults::refuse;
 use crate::inputs::{StampFile, takes_few};
 use crate::journal::{Played, play_file};
 use crate::make::push_made;
+use crate::ran::{Asked, run_made};
 use crate::reading::read_file;
 use crate::replay::replay;
 use crate::reports::{Telling, push_report};
@@ -165,6 +169,23 @@ fn answer<'w, R: Threads + Sync, S: Source, K: Sink, G: Gate>(
     let asked = match command_of(alloc, words) {
         Ok(Some(Command::Report(asked))) => asked,
         Ok(Some(Command::Make { number, count })) => return make(sink, number, count),
+        Ok(
+            Some(
+                Command::Run {
+                    number,
+                    count,
+                    ideal,
+                },
+            ),
+        ) => {
+            let asked = Asked {
+                number,
+                count,
+                ideal,
+            };
+            let blank = Blank::new(1);
+            return run_made::<R, K, G, Brand>(rt, alloc, sink, &asked, desk, gate, blank);
+        }
         Ok(None) => return refuse(sink, FaultText::Usage, Status::Usage),
         Err(NoMemory) => return refuse(sink, FaultText::Memory, Status::NoMemory),
     };
@@ -180,11 +201,12 @@ fn answer<'w, R: Threads + Sync, S: Source, K: Sink, G: Gate>(
 /// Does the whole work of the program: reads the words after the program's name, then, where they
 /// ask for a report, the whole input in pieces of 4,096 bytes, and then writes the report or the
 /// made file that the words ask for, or the one line of a fault. All memory is taken before the
-/// first push, and before the first tick of a replay.
+/// first push, and before the first tick.
 ///
-/// A replay is played on the desk, on which nothing was done yet. Nothing else changes it. In every
-/// order in which the steps of the driver, the readers and the crank may come, a replay that is done
-/// has printed the desk's own journal and the readers' logs (`headline`):
+/// A replay is played on the desk, on which nothing was done yet, and so is a run over made stamps.
+/// Nothing else changes it. In every order in which the steps of the driver, the readers and the crank
+/// may come, a replay that is done has printed the desk's own journal and the readers' logs
+/// (`headline`):
 ///
 /// - the journal is a legal one with the plan's orders; with a crank each of its counts is from the
 ///   plan's to the plan's greatest, and without one it is the plan's own journal;
@@ -196,6 +218,11 @@ fn answer<'w, R: Threads + Sync, S: Source, K: Sink, G: Gate>(
 ///   the tick that the call was at (`again`);
 /// - each entry is current at the first load of its call, and shows no count past the greatest;
 /// - between resets uninterrupted readings never fall as the counts rise, whoever read them.
+///
+/// A run over made stamps pulls nothing. All its stamps are accepted, and with four plain steps between
+/// two estimates and four readers of 1,000 attempts each it leaves on the desk what such a replay
+/// leaves. It has printed what does not depend on that order (`summary`): how many estimates have each
+/// flag, the last one, the last tick of the desk's journal, and how many there are of each.
 pub fn run<'w, R: Threads + Sync, S: Source, K: Sink, G: Gate>(
     rt: &R,
     alloc: Global,
@@ -208,7 +235,10 @@ pub fn run<'w, R: Threads + Sync, S: Source, K: Sink, G: Gate>(
     // Nothing was done with the desk.
     requires fresh { IsFresh desk.old.pen desk.old.passes.items }
 
-    // Which status comes, when it comes, what was then pulled and pushed, and what the desk holds.
+    // Which status comes, when it comes, what was then pulled and pushed, and what the desk holds. The
+    // words come first: where they are no line, nothing is read (`no_line` of `Comes`). Then the input, as
+    // its bytes come: a fault, a limit, a pull that failed or want of memory is what stops it first
+    // (`stopped`). Writing comes last: where a push failed, it was the last one (`EndsWith`).
     ensures ends { Ends S.left S.faults S.pull_gives K.written K.faults K.push_gives
         (map (λ w. w.now) words.entry.now) source.old source.new sink.old sink.new
         desk.old desk.new result }
@@ -224,10 +254,29 @@ pub fn run<'w, R: Threads + Sync, S: Source, K: Sink, G: Gate>(
         Headline (S.left source.old) (S.left source.new) (K.written sink.old) (K.written sink.new)
         options desk.new.pen }
 
+    // What a run over made stamps printed and left.
+    ensures summary { (a : Asked) → result ≡ Status.Done →
+        command_in (map (λ w. w.now) words.entry.now) ≡ Some (run_by a) →
+        RunHeadline (S.left source.old) (S.left source.new) (K.written sink.old) (K.written sink.new)
+        a desk.new.pen }
+
+    // In each world that the accepted stamps lie in, what a report told is true: its estimates, ticks
+    // and readings are off by at most their bounds, unless they are marked unsynchronised.
+    ensures truth { (asked : Report) → result ≡ Status.Done →
+        command_in (map (λ w. w.now) words.entry.now) ≡ Some (command.Report asked) →
+        Truth (S.left source.old) (S.left source.new) (K.written sink.old) (K.written sink.new)
+        asked desk.new.pen }
+
+    // And so is what a run over made stamps has left, in each world that these lie in, as they do in the
+    // made world.
+    ensures made_truth { (a : Asked) → result ≡ Status.Done →
+        command_in (map (λ w. w.now) words.entry.now) ≡ Some (run_by a) →
+        MadeTruth a desk.new.pen }
+
     // No tick was made where the status is that of a fault, but for a failing push.
     ensures none { MakesNone result → desk.new.pen.journal ≡ cold ∷ [] }
 
-    // The words decide alone where they are no line or ask for a made file, and else the input, where
+    // The words decide alone where they are no line or ask for made stamps, and else the input, where
     // nothing else interferes and memory is there.
     ensures usage { command_in (map (λ w. w.now) words.entry.now) ≡ None →
         (result ≡ Status.Usage) ⊎ ((result ≡ Status.WriteFault) ⊎ (result ≡ Status.NoMemory)) }
@@ -238,6 +287,10 @@ pub fn run<'w, R: Threads + Sync, S: Source, K: Sink, G: Gate>(
         (result ≡ status_by (stop_of_file (takes_few asked) text)) ⊎ (result ≡ Status.NoMemory) }
     ensures made { (number count : ℕ) →
         command_in (map (λ w. w.now) words.entry.now) ≡ Some (command.Make number count) →
+        WasFree (K.faults sink.old) (K.faults sink.new) →
+        (result ≡ Status.Done) ⊎ (result ≡ Status.NoMemory) }
+    ensures ran { (a : Asked) →
+        command_in (map (λ w. w.now) words.entry.now) ≡ Some (run_by a) →
         WasFree (K.faults sink.old) (K.faults sink.new) →
         (result ≡ Status.Done) ⊎ (result ≡ Status.NoMemory) }
 {

@@ -1,10 +1,18 @@
 // Examples of whole runs, with answers from the rules of the stamp file and of the report.
+mod faults;
+mod judge;
 mod large;
+mod limits;
+mod logs;
+mod ran;
+mod replays;
 mod rows;
 
+use crate::tests::judge::first_wrong;
 use crate::tests::large::{NUMBERED, REPEATED};
+use crate::tests::logs::{Attempt, Came, report_of};
 use crate::tests::rows::{
-    ENTRY_WORDS, HEAD, INPUT, LONG_LINES, NEVER, OTHER_WORDS, PULLS, PUSHES, REPLAYS, ROOM, RUNS,
+    HEAD, INPUT, LONG_LINES, NEVER, OTHER_WORDS, PULLS, PUSHES, READING, ROOM, RUNS,
 };
 use crate::{Status, run, run_in_blocks};
 use rad_io::{Gate, MemSink, MemSource, OpenGate, StdSink, StdSource};
@@ -116,11 +124,18 @@ fn runs_end_as_their_rows_say(rt: HostRuntime) -> Result<(), Fail> {
                 text,
             )?;
         }
+        if *code == 1 {
+            for words in &READING {
+                ends(&rt, rt.alloc(), words, &input, OUTSIDE, 1, text)?;
+            }
+        }
     }
     for (start, letter, count, rest, text) in &LONG_LINES {
         let letters = letter.repeat(rt.alloc(), *count)?;
         let input = format!(in rt.alloc(); "{start}{letters}{rest}")?;
-        ends(&rt, rt.alloc(), "stamps", &input, OUTSIDE, 1, text)?;
+        for words in &READING {
+            ends(&rt, rt.alloc(), words, &input, OUTSIDE, 1, text)?;
+        }
     }
     Ok(())
 }
@@ -176,50 +191,14 @@ fn ends_large<R: Abort + Threads + Sync>(
     Ok(())
 }
 
-// The lines of a text that begin with one of these words.
-fn count_of(text: &str, words: &[&str]) -> usize {
-    let mut count = 0_usize;
-    for line in text.lines() {
-        if words.iter().any(|w| line.starts_with(*w)) {
-            count = count.saturating_add(1);
-        }
-    }
-    count
-}
-
-#[test]
-fn replays_tell_each_reader(rt: HostRuntime) -> Result<(), Fail> {
-    for (words, head, entries, end) in &REPLAYS {
-        let (status, told) = played(&rt, rt.alloc(), words, INPUT, OUTSIDE)?;
-        assert_eq!(rt; status.code(), 0, "at {words}");
-        assert!(rt; told.starts_with(*head), "at {words}");
-        assert!(rt; told.ends_with(*end), "at {words}");
-        assert_eq!(rt; count_of(&told, &ENTRY_WORDS), *entries, "at {words}");
-        assert_eq!(rt; count_of(&told, &["ahead "]), 0, "at {words}");
-    }
-    Ok(())
-}
-
-#[test]
-fn a_day_is_replayed(rt: HostRuntime) -> Result<(), Fail> {
-    let (_, day) = played(&rt, rt.alloc(), "make 7 5400", "", OUTSIDE)?;
-    let words = "replay --readers 4 --reads 1000";
-    let (status, told) = played(&rt, rt.alloc(), words, &day, OUTSIDE)?;
-    assert_eq!(rt; status.code(), 0);
-    assert_eq!(rt; count_of(&told, &["estimate "]), 5400);
-    assert_eq!(rt; count_of(&told, &["tick "]), 26998);
-    assert_eq!(rt; count_of(&told, &ENTRY_WORDS), 4000);
-    assert_eq!(rt; count_of(&told, &[""]), 36400);
-    assert!(rt; told.ends_with("\nend accepted 5400 refused 0 ticks 26998 entries 4000\n"));
-    Ok(())
-}
-
 #[test]
 fn lines_and_bytes_have_limits(rt: HostRuntime) -> Result<(), Fail> {
-    for (line, times, rest, code, end) in &REPEATED {
+    for (line, times, rest, code, end, many) in &REPEATED {
         let lines = line.repeat(rt.alloc(), *times)?;
         let input = format!(in rt.alloc(); "{HEAD}{lines}{rest}")?;
-        ends_large(&rt, rt.alloc(), "stamps", &input, *code, end)?;
+        for words in READING.iter().take(*many) {
+            ends_large(&rt, rt.alloc(), words, &input, *code, end)?;
+        }
     }
     Ok(())
 }
@@ -334,6 +313,14 @@ impl Gate for Meeting {
     }
 }
 
+// Whether an attempt is one of reader 0, or was made when the driver had published tick 3.
+fn is_met(attempt: &Attempt) -> bool {
+    match attempt.came {
+        Came::Read { tick, .. } => attempt.reader == 0 || tick >= 3,
+        Came::Again { .. } | Came::Old { .. } | Came::Ahead { .. } => true,
+    }
+}
+
 #[test]
 fn a_reader_and_the_driver_of_a_run_meet(rt: HostRuntime) -> Result<(), Fail> {
     let gate = Meeting {
@@ -346,5 +333,8 @@ fn a_reader_and_the_driver_of_a_run_meet(rt: HostRuntime) -> Result<(), Fail> {
     assert_eq!(rt; gate.reader.load(Ordering::SeqCst), 2);
     assert_eq!(rt; gate.driver.load(Ordering::SeqCst), 2);
     assert!(rt; told.ends_with("\nend accepted 2 refused 0 ticks 8 entries 8\n"));
+    let report = report_of(rt.alloc(), &told, usize::MAX)?;
+    assert_eq!(rt; first_wrong(&report), None, "at {told}");
+    assert!(rt; report.attempts.iter().all(is_met), "at {told}");
     Ok(())
 }

@@ -5,8 +5,9 @@ const REFUSED: &str = "1 5 5 9\n";
 
 const COMMENT: &str = "# nineteen letters.\n";
 
-/// The command `stamps` on a line so many times, and a rest.
-pub static REPEATED: [(&str, usize, &str, u8, &str); 9] = [
+/// A line so many times, and a rest; then the exit status, the end, and how many of the commands that read a
+/// file are run on it.
+pub static REPEATED: [(&str, usize, &str, u8, &str, usize); 9] = [
     // The most well-formed stamp lines, of which the first is accepted.
     (
         REFUSED,
@@ -14,28 +15,37 @@ pub static REPEATED: [(&str, usize, &str, u8, &str); 9] = [
         "# a note\n",
         0,
         "end accepted 1 refused 65535\n",
+        3,
     ),
-    (REFUSED, 65536, "1 5 5 9\n", 6, "fault large stamps\n"),
-    (REFUSED, 65536, "1 5 5 9", 6, "fault large stamps\n"),
-    (REFUSED, 65536, "1 5 5 9\nx\n", 6, "fault large stamps\n"),
+    (REFUSED, 65536, "1 5 5 9\n", 6, "fault large stamps\n", 5),
+    (REFUSED, 65536, "1 5 5 9", 6, "fault large stamps\n", 1),
+    (REFUSED, 65536, "1 5 5 9\nx\n", 6, "fault large stamps\n", 1),
     (
         REFUSED,
         65536,
         "x\n1 5 5 9\n",
         1,
         "fault input 65539 columns\n",
+        1,
     ),
     // The head has 34 bytes, and the comments leave 2 bytes up to the limit.
-    (COMMENT, 838859, "#\n", 0, "\nend accepted 0 refused 0\n"),
-    (COMMENT, 838859, "#\n#", 6, "fault large bytes\n"),
+    (COMMENT, 838859, "#\n", 0, "\nend accepted 0 refused 0\n", 1),
+    (COMMENT, 838859, "#\n#", 6, "fault large bytes\n", 2),
     // A bad line that ends at the limit, and one whose line feed is past it.
-    (COMMENT, 838859, "x\n#", 1, "fault input 838862 columns\n"),
-    (COMMENT, 838859, "xx\n", 6, "fault large bytes\n"),
+    (
+        COMMENT,
+        838859,
+        "x\n#",
+        1,
+        "fault input 838862 columns\n",
+        1,
+    ),
+    (COMMENT, 838859, "xx\n", 6, "fault large bytes\n", 1),
 ];
 
 /// So many stamps one a second, in two parts: the number behind the last, the round trip, and how much
 /// it is more for each stamp before; and a rest.
-pub static NUMBERED: [(&str, [(u32, u32, u32); 2], &str, u8, &str); 12] = [
+pub static NUMBERED: [(&str, [(u32, u32, u32); 2], &str, u8, &str); 16] = [
     // The least of the last 1,024 round trips is that of stamp 64,512.
     (
         "rtt",
@@ -87,6 +97,34 @@ pub static NUMBERED: [(&str, [(u32, u32, u32); 2], &str, u8, &str); 12] = [
         "16384000000000 16384 16384 16384000100000\nx\n",
         6,
         "fault large accepted\n",
+    ),
+    (
+        "replay --readers 0",
+        [(16384, 100000, 0), (0, 0, 0)],
+        "1 5 5 9\n",
+        0,
+        "end accepted 16384 refused 1 ticks 81918 entries 0\n",
+    ),
+    (
+        "replay --readers 0",
+        [(16384, 100000, 0), (0, 0, 0)],
+        "16384000000000 16384 16384 16384000100000\n",
+        6,
+        "fault large accepted\n",
+    ),
+    (
+        "replay --readers 0",
+        [(16384, 100000, 0), (0, 0, 0)],
+        "x\n",
+        1,
+        "fault input 16387 columns\n",
+    ),
+    (
+        "estimate",
+        [(65537, 100000, 0), (0, 0, 0)],
+        "",
+        6,
+        "fault large stamps\n",
     ),
     (
         "estimate",

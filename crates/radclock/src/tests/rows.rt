@@ -69,12 +69,22 @@ tick 4 take 17000100000 1700000016+922331527237072 1700000016+922309850774144 18
 end accepted 2 refused 0 ticks 5 entries 0
 ";
 
+const THREE_RUN: &str = "report run number 7 count 3
+summary accepted 3 refused 0 shifts 0 predicted 0 local 0
+estimate 2 115202720165 1700000048+46793171941917195 7686392465 604113 21611960 W 11143907882323186 7686226356 7686558583 ---
+tick 12 take 115202720165 1700000048+46793171941917195 1700000048+44274156073703347 7686458063 1700000000+8834850771912910 W 1700000048+46793171941917195 115202720165 7686392465 604113 21611960 W 0 0 0
+end accepted 3 refused 0 ticks 13 entries 4000
+";
+
 const THREE_MADE: &str = "radclock-stamps 1
 freq 2400000000
 38400891338 1700000016.001110262 1700000016.001120808 38402164327
 76800894613 1700000032.001459061 1700000032.001474296 76801955950
 115200673647 1700000048.002216836 1700000048.002229323 115202720165
 ";
+
+/// The commands that read a file. What is wrong with it is told alike by each.
+pub static READING: [&str; 5] = ["stamps", "rtt", "estimate", "ticks", "replay"];
 
 /// A pull or a push of this number never comes.
 pub const NEVER: u64 = u64::MAX;
@@ -83,7 +93,7 @@ pub const NEVER: u64 = u64::MAX;
 pub const ROOM: usize = 40_000_000;
 
 /// The words, two parts of an input, the exit status and what is written.
-pub static RUNS: [(&str, &str, &str, u8, &str); 57] = [
+pub static RUNS: [(&str, &str, &str, u8, &str); 62] = [
     ("stamps", INPUT, "", 0, REPORT),
     (
         "stamps",
@@ -339,6 +349,35 @@ end accepted 2 refused 7
     ("ticks", HEAD, "", 0, NO_STAMPS),
     ("ticks --ticks 4", HEAD, "", 0, NO_STAMPS),
     ("ticks --ticks 1", INPUT, "", 0, JUMP_AND_SLOPE),
+    (
+        "ticks --ticks 1",
+        HEAD,
+        "1000000000 1700000000 1700000000 1000100000\n17000000000 1700000016 1700000016 17000100000",
+        0,
+        JUMP_AND_SLOPE,
+    ),
+    (
+        "ticks --ticks 1",
+        "",
+        "radclock-stamps 1\r\nfreq 1000000000\r\n1000000000 1700000000 1700000000 1000100000\r\n17000000000 1700000016 1700000016 17000100000\r\n",
+        0,
+        JUMP_AND_SLOPE,
+    ),
+    (
+        "replay --ticks 1 --readers 0",
+        HEAD,
+        "1000000000 1700000000 1700000000 1000100000\n17000000000 1700000016 1700000016 17000100000",
+        0,
+        WITHOUT_READERS,
+    ),
+    (
+        "replay --ticks 1 --readers 0",
+        "",
+        "radclock-stamps 1\r\nfreq 1000000000\r\n1000000000 1700000000 1700000000 1000100000\r\n17000000000 1700000016 1700000016 17000100000\r\n",
+        0,
+        WITHOUT_READERS,
+    ),
+    ("run 7 3", "", "", 0, THREE_RUN),
     ("ticks --ticks=1", INPUT, "", 0, JUMP_AND_SLOPE),
     (
         "replay --ticks 1 --readers 0",
@@ -350,35 +389,48 @@ end accepted 2 refused 7
     ("make 7 3", "", "", 0, THREE_MADE),
 ];
 
-/// The first words of the lines of entries.
-pub const ENTRY_WORDS: [&str; 4] = ["read ", "again ", "old ", "ahead "];
-
-/// The words of a replay of two stamps, the first line that is written, how many lines of entries
-/// are, and the last line. What the readers read hangs on the order in which the threads come.
-pub static REPLAYS: [(&str, &str, usize, &str); 4] = [
+/// The words of a replay of two stamps, and the first and the last line that are written. What the readers
+/// read hangs on the order in which the threads come.
+pub static REPLAYS: [(&str, &str, &str); 8] = [
+    (
+        "replay --ticks 1 --readers 1 --reads 6 --back",
+        "report replay freq 1000000000 ticks 1 readers 1 reads 6 back\n",
+        "\nend accepted 2 refused 0 ticks 5 entries 6\n",
+    ),
+    (
+        "replay --ticks 4 --readers 2 --reads 400 --crank",
+        "report replay freq 1000000000 ticks 4 readers 2 reads 400 crank\n",
+        "\nend accepted 2 refused 0 ticks 8 entries 800\n",
+    ),
     (
         "replay --ticks 1 --reads 7",
         "report replay freq 1000000000 ticks 1 readers 2 reads 7\n",
-        14,
         "\nend accepted 2 refused 0 ticks 5 entries 14\n",
     ),
     (
         "replay --back --readers=3 --reads 12",
         "report replay freq 1000000000 ticks 4 readers 3 reads 12 back\n",
-        36,
         "\nend accepted 2 refused 0 ticks 8 entries 36\n",
     ),
     (
         "replay --crank --ticks 15",
         "report replay freq 1000000000 ticks 15 readers 2 reads 100 crank\n",
-        200,
         "\nend accepted 2 refused 0 ticks 19 entries 200\n",
     ),
     (
         "replay --crank --reads=0 --back",
         "report replay freq 1000000000 ticks 4 readers 2 reads 0 back crank\n",
-        0,
         "\nend accepted 2 refused 0 ticks 8 entries 0\n",
+    ),
+    (
+        "replay --ticks 15 --readers 16 --reads 1000 --back",
+        "report replay freq 1000000000 ticks 15 readers 16 reads 1000 back\n",
+        "\nend accepted 2 refused 0 ticks 19 entries 16000\n",
+    ),
+    (
+        "replay --ticks 15 --readers 16 --reads 1000 --back --crank",
+        "report replay freq 1000000000 ticks 15 readers 16 reads 1000 back crank\n",
+        "\nend accepted 2 refused 0 ticks 19 entries 16000\n",
     ),
 ];
 
@@ -407,12 +459,12 @@ pub static LONG_LINES: [(&str, &str, usize, &str, &str); 14] = [
 ];
 
 /// Words that are no line of the command.
-pub static OTHER_WORDS: [&str; 24] = [
+pub static OTHER_WORDS: [&str; 93] = [
     "",
     "-- stamps",
     "stamps extra",
     "make 7",
-    "run 7 3",
+    "run 7",
     "replay --readers 17",
     "replay --reads 16385",
     "replay --back --back",
@@ -432,6 +484,75 @@ pub static OTHER_WORDS: [&str; 24] = [
     "ticks --tick 4",
     "ticks -t 4",
     "--ticks 4 ticks",
+    "run",
+    "stamp",
+    "--help",
+    "--version",
+    "help",
+    "stamps --help",
+    "stamps --ticks 4",
+    "stamps --back",
+    "stamps -- --back",
+    "rtt rtt",
+    "rtt --ticks=4",
+    "rtt --readers 2",
+    "rtt --crank",
+    "estimate extra",
+    "estimate --reads 100",
+    "estimate --back",
+    "ticks --readers 2",
+    "ticks --reads=100",
+    "ticks --back",
+    "ticks --crank",
+    "replay extra",
+    "replay --",
+    "replay --ticks",
+    "replay --ticks=",
+    "replay --ticks 16",
+    "replay --ticks=16",
+    "replay --ticks 01",
+    "replay --ticks +1",
+    "replay --ticks 1 --ticks=1",
+    "replay --tick 1",
+    "replay --readers",
+    "replay --readers=",
+    "replay --readers=17",
+    "replay --readers 02",
+    "replay --readers -1",
+    "replay --readers 4294967296",
+    "replay --readers 2 --readers 2",
+    "replay --reader 2",
+    "replay --reads",
+    "replay --reads=",
+    "replay --reads=16385",
+    "replay --reads 0100",
+    "replay --reads 18446744073709551616",
+    "replay --reads=1 --reads=1",
+    "replay --read 1",
+    "replay --back=",
+    "replay --back=1",
+    "replay --back 1",
+    "replay --Back",
+    "replay -b",
+    "replay --crank=",
+    "replay --crank 1",
+    "replay --crank --crank",
+    "replay --back --crank --back",
+    "replay --backcrank",
+    "replay --readers --back",
+    "make",
+    "make 7 0",
+    "make 7 16385",
+    "make 7 03",
+    "make 07 3",
+    "make +7 3",
+    "make -7 3",
+    "make 4294967296 3",
+    "make 7 3 3",
+    "make 7 3 --ticks 4",
+    "make 7 3 --back",
+    "make --number 7",
+    "make 7  3",
 ];
 
 /// The words, the input, the most bytes of a pull and the number of the pull that fails, the exit

@@ -24,6 +24,15 @@ returns-in-Ok-Some-Make g c =
     let line = c.in-Ok-Some-Make in
     record { due = _; lines = _; comes = runs.made line.number line.count (sym line.ensures.value ∙ line.field-0-is ∙ ap (λ x. Some x) line.field-0-0-is) refl refl; ends = c.make.ensures }
 
+pub returns-in-Ok-Some-Run : goal.returns-in-Ok-Some-Run
+returns-in-Ok-Some-Run g c =
+    let line = c.in-Ok-Some-Run in
+    let is = sym line.ensures.value ∙ line.field-0-is ∙ ap (λ x. Some x) line.field-0-0-is in
+    elim c.run_made.ensures [
+      | inl ends ↦ record { due = _; lines = _; comes = runs.ran _ is refl ends.0 ends.1; ends = ends.2 }
+      | inr ends ↦ record { due = _; lines = _; comes = runs.ran_short _ is refl ends.0; ends = ends.1 }
+    ]
+
 pub returns-in-Ok-None : goal.returns-in-Ok-None
 returns-in-Ok-None g c = record { due = _; lines = _; comes = runs.no_line (sym c.in-Ok-None.ensures.value ∙ c.in-Ok-None.field-0-is) refl refl; ends = c.refuse.ensures }
 

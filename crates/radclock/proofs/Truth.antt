@@ -1,0 +1,112 @@
+-- A done run told what is true in each world that the accepted stamps lie in.
+use Rattle.std.proofs.Common.{◌≡◌, ℕ, ◌≤◌, false, List, [], map, Option, None, Some, sym, ◌∙◌, subst, arith}
+use Rattle.std.specs.List.{All}
+use Rattle.std.proofs.lemmas.List.Elements.{All-map}
+use Rattle.ff_grain.specs.Grains.{number_of}
+use Rattle.ff_grain.specs.declared.bintime.Bintime.{Bintime}
+use Rattle.stamp_text.specs.Accepted.{IsInRange, AreAccepted}
+use Rattle.stamp_text.specs.declared.lines.Stamp.{Stamp}
+use Rattle.stamp_text.specs.Grammar.{given_of_file, fault_of_file}
+use Rattle.stamp_text.proofs.AcceptedLaws.{accepted-none, accepted-all}
+use Rattle.stamp_text.proofs.GivenLaws.{head-first}
+use Rattle.stamp_text.proofs.RangeLaws.{file-in-range}
+use Rattle.ff_hands.specs.declared.hands.Hands.{Hands}
+use Rattle.clock_lines.specs.Values.{value_of, bound_of}
+use Rattle.clock_lines.specs.declared.readings.Entry.{Entry}
+use Rattle.clock_lines.specs.declared.readings.Entry.TheVariants as entry
+use Rattle.clock_lines.specs.declared.readings.Kind.{Kind}
+use Rattle.clock_lines.specs.declared.readings.Kind.TheVariants as kind
+use Rattle.clock_logs.specs.Legal.{IsPlaced}
+use Rattle.clock_logs.specs.Logs.{IsLog}
+use Rattle.clock_words.specs.Lines.{command_in}
+use Rattle.clock_words.specs.declared.commands.Command.TheVariants as command
+use Rattle.clock_words.specs.declared.commands.Report.{Report}
+use Rattle.clock_words.specs.declared.commands.Report.TheVariants as asked
+use Rattle.tick_desk.specs.Shows.{PenShows}
+use Rattle.tick_desk.specs.declared.desk.Desk.{Desk}
+use Rattle.replay_run.specs.declared.plan.Options.{Options}
+use Rattle.stamp_maker.specs.Worlds.{frequency, made_world}
+use Rattle.stamp_maker.proofs.Lying.{made-fits}
+use Rattle.stamp_maker.proofs.MadeLists.{made-lie}
+use Rattle.world_times.specs.Worlds.{IsFit, LiesIn}
+use Rattle.world_times.specs.declared.world.World.{World}
+use Rattle.world_laws.specs.Truths.{IsCovered, IsTrueTick, AreTrueTicks}
+use Rattle.world_laws.proofs.BoundsHold.{estimates-true}
+use Rattle.world_laws.proofs.PlansGoBy.{readings-true, plays-true}
+use Rattle.radclock.specs.Inputs.{IsRanged, accepted_among, freq_of_file, stamps_of_file}
+use Rattle.radclock.specs.MadeRuns.{run_options, run_stamps}
+use Rattle.radclock.specs.Replays.{IsReplayed}
+use Rattle.radclock.specs.Runs.{Leaves, WasDone, WasRead, RunHeadline, reported, filed, summarised}
+use Rattle.radclock.specs.Truth.{AreTrueReadings, IsTrueReplay, MadeTruth, TellsTrue, Truth}
+use Rattle.radclock.specs.declared.ran.Asked.{Asked}
+use Rattle.radclock.specs.declared.inputs.StampLine.{StampLine}
+use Rattle.radclock.proofs.Gathering.{head-ranged, stamps-timed}
+
+-- an input in the grammar is in its ranges
+file-ranged : (text : List ℕ) → fault_of_file text ≡ None → IsRanged (freq_of_file text) (stamps_of_file text)
+unfolding freq_of_file stamps_of_file
+file-ranged text sound =
+    let head = head-first text sound in
+    let freq = head-ranged (given_of_file text) head.1 head.0 head.2 (file-in-range text) in
+    record { low = freq.low; high = freq.high; timed = stamps-timed (given_of_file text) (file-in-range text) }
+
+-- a reading by a true tick, where it may be read
+reading-true : (w : World) (ticks : List Hands) (n count : ℕ) (h : Hands) (k : Kind) → IsTrueTick w h → IsPlaced k ticks n count h → IsCovered w k count (number_of (value_of h k count)) (bound_of h k count)
+reading-true w ticks n count h kind.Abs is place = is kind.Abs count place.reached
+reading-true w ticks n count h kind.Fast is place = is kind.Fast count (sym place)
+reading-true w ticks n count h kind.Diff is place = is kind.Diff count tt
+reading-true w ticks n count h kind.Mono is place = tt
+reading-true w ticks n count h kind.Uptime is place = tt
+reading-true w ticks n count h kind.Back is place = tt
+reading-true w ticks n count h kind.Utc is place = tt
+
+log-true : (w : World) (ticks : List Hands) (es : List Entry) → AreTrueTicks w ticks → IsLog ticks es → AreTrueReadings w ticks es
+log-true w ticks es are log n r h here at sync =
+    let is = log.each n (entry.Read r) here in
+    let same : is.hands ≡ h = (let e = sym is.tick ∙ at in cc) in
+    let covered : IsCovered w r.kind r.count (number_of (value_of is.hands r.kind r.count)) (bound_of is.hands r.kind r.count) =
+    reading-true w ticks r.tick r.count is.hands r.kind (are r.tick is.hands is.tick (subst (λ (h : Hands). h.kstatus.unsync ≡ false) (sym same) sync)) is.place in
+    subst (λ b. IsCovered w r.kind r.count (number_of r.time) b) (sym is.bound)
+    (subst (λ (t : Bintime). IsCovered w r.kind r.count (number_of t) (bound_of is.hands r.kind r.count)) (sym is.time) covered)
+
+-- a replay of accepted stamps that lie in a world
+replay-true : (w : World) (options : Options) (freq : ℕ) (all : List Stamp) (pen : PenShows) → 1000000 ≤ freq → freq ≤ 16000000000 → IsFit freq w → AreAccepted freq all → All (LiesIn w) all → IsReplayed options freq all pen → IsTrueReplay w freq all pen
+replay-true w options freq all pen low high fit accepted lie is =
+    let are = readings-true freq options.ticks options.crank w all pen.journal low high fit accepted lie is.journal in
+    record {
+      estimates = estimates-true freq w all low high fit accepted lie;
+      ticks = are;
+      readings = λ i k at. log-true w pen.journal _ are (is.legal i k at);
+    }
+
+-- that of made stamps, in each world that they lie in
+pub made-truth-of : (left left' written written' : Option (List ℕ)) (a : Asked) (pen : PenShows) → RunHeadline left left' written written' a pen → MadeTruth a pen
+made-truth-of left left' written written' a pen done =
+    let holds : (w : World) → IsFit frequency w → All (LiesIn w) (run_stamps a) → IsTrueReplay w frequency (run_stamps a) pen =
+    λ w fit lie. replay-true w run_options frequency (run_stamps a) pen (omega arith) (omega arith) fit done.made.accepted lie done.made.replayed in
+    record { holds = holds; made = holds made_world made-fits (made-lie a.number a.count) }
+
+module _ (w : World) (freq : ℕ) (stamps : List StampLine) (ranged : IsRanged freq stamps) (fit : IsFit freq w) (lie : All (LiesIn w) (accepted_among freq [] stamps)) where
+  accepted : AreAccepted freq (accepted_among freq [] stamps)
+  accepted = accepted-all freq [] (map (λ x. x.stamp) stamps) (accepted-none freq) (All-map IsInRange (λ x. x.stamp) stamps ranged.timed)
+
+  tells-true : (r : Report) (old new : Desk) → Leaves r freq stamps old new → TellsTrue w r freq (accepted_among freq [] stamps) new.pen
+  tells-true asked.Stamps old new leaves = tt
+  tells-true asked.Rtt old new leaves = tt
+  tells-true asked.Estimate old new leaves = estimates-true freq w (accepted_among freq [] stamps) ranged.low ranged.high fit accepted lie
+  tells-true (asked.Ticks ticks) old new leaves = plays-true freq ticks w (accepted_among freq [] stamps) ranged.low ranged.high fit accepted lie
+  tells-true (asked.Replay ticks readers reads back crank) old new leaves = replay-true w _ freq (accepted_among freq [] stamps) new.pen ranged.low ranged.high fit accepted lie leaves
+
+pub truth-of : (left left' written written' : Option (List ℕ)) (desk desk' : Desk) (words : List (List ℕ)) (r : Report) → command_in words ≡ Some (command.Report r) → WasDone left left' written written' desk desk' words → Truth left left' written written' r desk'.pen
+truth-of left left' written written' desk desk' words r line (reported r' is was) =
+    let same : r' ≡ r = cc in
+    let done : WasRead left left' written written' desk desk' r = subst (WasRead left left' written written' desk desk') same was in
+    record {
+      text = done.text;
+      bytes = done.bytes;
+      ended = done.ended;
+      printed = done.wrote;
+      holds = λ w fit lie. tells-true w (freq_of_file done.text) (stamps_of_file done.text) (file-ranged done.text done.sound) fit lie r desk desk' done.leaves;
+    }
+truth-of left left' written written' desk desk' words r line (filed number count is same stays wrote) = absurd (cc)
+truth-of left left' written written' desk desk' words r line (summarised a is same told leaves wrote) = absurd (cc)

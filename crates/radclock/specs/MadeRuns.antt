@@ -1,0 +1,96 @@
+-- The command `run`: made stamps, replayed with set options, and a summary.
+use Rattle.std.specs.Prelude.{◌≡◌, ℕ, ◌-◌, true, false, List, [], ◌∷◌, ◌++◌, length, count_by, Option, None, Some}
+use Rattle.stamp_text.specs.Accepted.{AreAccepted}
+use Rattle.stamp_text.specs.declared.lines.Stamp.{Stamp}
+use Rattle.stamp_maker.specs.MadeStamps.{made_stamps}
+use Rattle.stamp_maker.specs.Worlds.{frequency, made_world}
+use Rattle.ff_hands.specs.declared.hands.Hands.{Hands}
+use Rattle.ff_estimator.specs.Folds.{fold_of}
+use Rattle.ff_estimator.specs.declared.fulls.Full.{Full}
+use Rattle.clock_core.specs.Machines.{newest}
+use Rattle.clock_words.specs.Lines.{IsCommandInRange}
+use Rattle.clock_words.specs.declared.commands.Command.{Command}
+use Rattle.clock_words.specs.declared.commands.Command.TheVariants as command
+use Rattle.tick_desk.specs.Shows.{PenShows}
+use Rattle.replay_run.specs.declared.plan.Options.{Options}
+use Rattle.ideal_world.specs.Deviations.{IsFarthest}
+use Rattle.ideal_world.specs.declared.deviations.Deviation.{Deviation}
+use Rattle.report_text.specs.Text.{head_text, summary_text, ideal_text, estimate_text, tick_text, end_text}
+use Rattle.report_text.specs.declared.lines.EndCounts.{EndCounts}
+use Rattle.report_text.specs.declared.lines.ReportHead.{ReportHead}
+use Rattle.report_text.specs.declared.lines.ReportHead.TheVariants as head
+use Rattle.report_text.specs.declared.lines.Summary.{Summary}
+use Rattle.radclock.specs.Replays.{logs_of, entries_in, IsReplayed}
+use Rattle.radclock.specs.Reports.{of_nth}
+use Rattle.radclock.specs.declared.ran.Asked.{Asked}
+
+-- the command of such a run
+abbrev pub run_by : Asked → Command
+run_by asked = command.Run asked.number asked.count asked.ideal
+
+-- its numbers are in their ranges
+abbrev pub IsAskedInRange : Asked → Type 0
+IsAskedInRange asked = IsCommandInRange (run_by asked)
+
+-- how it is replayed
+abbrev pub run_options : Options
+run_options = record { ticks = 4; readers = 4; reads = 1000; back = false; crank = false }
+
+-- its stamps
+abbrev pub run_stamps : Asked → List Stamp
+run_stamps asked = made_stamps asked.number asked.count
+
+-- all that a daemon says of them
+abbrev pub run_fulls : Asked → List Full
+run_fulls asked = fold_of frequency (run_stamps asked)
+
+-- exactly where it is asked for, the first tick, from tick 2 on, that is farthest from the truth in the made world
+abbrev pub IsTold : Asked → List Hands → Option Deviation → Type 0
+IsTold asked ticks None = asked.ideal ≡ false
+IsTold asked ticks (Some farthest) = (asked.ideal ≡ true) × IsFarthest made_world ticks farthest
+
+-- What it leaves on a desk, and what it tells of that
+pub record IsRunOf (asked : Asked) (told : Option Deviation) (pen : PenShows) : Type 0 where
+  -- all its stamps are accepted
+  pub accepted : AreAccepted frequency (run_stamps asked)
+  -- their replay is what the pen shows
+  pub replayed : IsReplayed run_options frequency (run_stamps asked) pen
+  -- where it is asked for, the tick that is farthest from the truth
+  pub farthest : IsTold asked pen.journal told
+
+-- what its summary counts, where each stamp is accepted
+abbrev pub summary_of : List Full → Summary
+summary_of fulls = record { accepted = length fulls; refused = 0; shifts = count_by (λ f. f.shifted) fulls; predicted = count_by (λ f. f.predicted) fulls; local = count_by (λ f. f.local) fulls }
+
+-- what its end counts
+abbrev pub run_counts : List Full → List Hands → ℕ → EndCounts
+run_counts fulls ticks entries = record { accepted = length fulls; refused = 0; ticks = Some (length ticks); entries = Some entries }
+
+-- its head
+abbrev pub run_head : Asked → ReportHead
+run_head asked = head.Run asked.number asked.count asked.ideal
+
+-- how its report begins: the head, and the summary
+abbrev pub opening_lines : Asked → List Full → List (List ℕ)
+opening_lines asked fulls = head_text (run_head asked) ∷ summary_text (summary_of fulls) ∷ []
+
+-- then the tick that is told to be farthest from the truth, by how much, and its bound
+abbrev pub told_lines : Option Deviation → List (List ℕ)
+told_lines None = []
+told_lines (Some f) = ideal_text f.tick f.distance f.bound ∷ []
+
+-- and how it ends: the last estimate, the last tick, and what there is of each
+abbrev pub closing_lines : List Full → List Hands → ℕ → List (List ℕ)
+closing_lines fulls ticks entries =
+    of_nth (estimate_text (length fulls - 1)) fulls (length fulls - 1)
+    ∷ tick_text (length ticks - 1) (newest ticks)
+    ∷ end_text (run_counts fulls ticks entries)
+    ∷ []
+
+-- the report on estimates, what is told of the truth, a journal, and so many entries
+abbrev pub run_lines : Asked → List Full → Option Deviation → List Hands → ℕ → List (List ℕ)
+run_lines asked fulls told ticks entries = opening_lines asked fulls ++ told_lines told ++ closing_lines fulls ticks entries
+
+-- the report on its own estimates, what is told of the truth, and what a pen shows
+unfoldable pub run_text : Asked → Option Deviation → PenShows → List (List ℕ)
+run_text asked told pen = run_lines asked (run_fulls asked) told pen.journal (entries_in (logs_of pen))
