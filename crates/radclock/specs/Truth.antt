@@ -24,11 +24,12 @@ use Rattle.radclock.specs.Replays.{EachKept, steps_by}
 use Rattle.radclock.specs.Reports.{report_of}
 use Rattle.radclock.specs.declared.ran.Asked.{Asked}
 
--- each reading of a log is off by at most its bound, unless its tick is marked unsynchronised
+-- each reading of the absolute clock or of an interval in a log is off by at most its bound, unless its tick is marked
+-- unsynchronised; nothing is said of the other clocks
 abbrev pub AreTrueReadings : World → List Hands → List Entry → Type 0
 AreTrueReadings w ticks es = (n : ℕ) (r : Reading) (h : Hands) → slice_get es n ≡ Some (entry.Read r) → slice_get ticks r.tick ≡ Some h → h.kstatus.unsync ≡ false → IsCovered w r.kind r.count (number_of r.time) r.bound
 
--- a replay of these stamps is true: their estimates, the ticks, and the readings of each log
+-- a replay of these stamps is true: their estimates, the ticks, and such readings of each log
 pub record IsTrueReplay (w : World) (freq : ℕ) (all : List Stamp) (pen : PenShows) : Type 0 where
   pub estimates : All (IsTrueEstimate w) (fold_of freq all)
   pub ticks : AreTrueTicks w pen.journal

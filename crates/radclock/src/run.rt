@@ -222,7 +222,12 @@ fn answer<'w, R: Threads + Sync, S: Source, K: Sink, G: Gate>(
 /// A run over made stamps pulls nothing. All its stamps are accepted, and with four plain steps between
 /// two estimates and four readers of 1,000 attempts each it leaves on the desk what such a replay
 /// leaves. It has printed what does not depend on that order (`summary`): how many estimates have each
-/// flag, the last one, the last tick of the desk's journal, and how many there are of each.
+/// flag, where it is asked for the tick that is farthest from the truth, the last estimate, the last tick
+/// of the desk's journal, and how many there are of each.
+///
+/// In each world in which the counter runs at one rate and that the accepted stamps lie in, estimates are
+/// off by at most what was told of their error, and so are readings of the absolute clock and of intervals
+/// by ticks that are not marked unsynchronised (`truth`, `made_truth`). Of the other clocks nothing is said.
 pub fn run<'w, R: Threads + Sync, S: Source, K: Sink, G: Gate>(
     rt: &R,
     alloc: Global,
@@ -260,8 +265,9 @@ pub fn run<'w, R: Threads + Sync, S: Source, K: Sink, G: Gate>(
         RunHeadline (S.left source.old) (S.left source.new) (K.written sink.old) (K.written sink.new)
         a desk.new.pen }
 
-    // In each world that the accepted stamps lie in, what a report told is true: its estimates, ticks
-    // and readings are off by at most their bounds, unless they are marked unsynchronised.
+    // In each world that the accepted stamps lie in, what a report told is true: its estimates, and by
+    // ticks that are not marked unsynchronised what it told of the absolute clock and of intervals, are off
+    // by at most their bounds.
     ensures truth { (asked : Report) → result ≡ Status.Done →
         command_in (map (λ w. w.now) words.entry.now) ≡ Some (command.Report asked) →
         Truth (S.left source.old) (S.left source.new) (K.written sink.old) (K.written sink.new)
