@@ -198,7 +198,8 @@ impl Pen {
     {
         self.made += 1;
         Pass {
-            seat: self.seat.split_pass(share),
+            share,
+            seat: self.seat.split_pass(),
         }
     }
 
@@ -219,7 +220,7 @@ impl Pen {
             IsKeptLegal self.old.journal self.old.top self.old.out k }
         ensures once { IsOnce self.new.kept }
     {
-        let Pass { seat } = pass;
+        let Pass { share: _, seat } = pass;
         self.seat.join_pass(seat);
         self.seat.load_turn();
     }

@@ -23,4 +23,5 @@ pub use laws::ticks_keep_entries;
 pub use note::NoteSeat;
 pub use pass::PassSeat;
 pub use pen::PenSeat;
-pub use share::Share;
+pub use rule::Ticks;
+pub use share::{Share, Words};

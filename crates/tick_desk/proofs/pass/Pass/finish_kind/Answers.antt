@@ -4,10 +4,10 @@ use Rattle.tick_laws.specs.Goes.{ask_of}
 use Rattle.tick_desk.proofs.Hands.{by_it}
 use Rattle.tick_desk.proofs.Inside.{from_inside}
 use Rattle.tick_laws.proofs.Reading.{b_scan_of, may_whole, whole_again, whole_read, whole_sound, whole_stands, whole_fields, whole_past_it}
-use Rattle.tick_desk.proofs.pass.Pass.finish_whole.Goals as goal
+use Rattle.tick_desk.proofs.pass.Pass.finish_kind.Goals as goal
 
-pub load_counter-count-requires : goal.load_counter-count-requires
-load_counter-count-requires c = let g = from_inside c.args.self.now c.self.inside.seat _ _ c.self.view_is c.load_fields-fields.ensures.loads in g.calling ∙ ap (λ s. undecided s.answer) (b_scan_of _ _ (ask_of c.args.kind) c.args.first c.load_fields-fields.result c.requires.at g)
+pub load_counter-count-requires-clause-calling : goal.load_counter-count-requires-clause-calling
+load_counter-count-requires-clause-calling c = let g = from_inside c.args.self.now c.self.inside.seat _ _ c.self.view_is c.load_fields-fields.ensures.loads in g.calling ∙ ap (λ s. undecided s.answer) (b_scan_of _ _ (ask_of c.args.kind) c.args.first c.load_fields-fields.result c.requires.at g)
 
 pub returns-then-last-first-clause-answers : goal.returns-then-last-first-clause-answers
 returns-then-last-first-clause-answers c = let g = from_inside c.args.self.now c.self.inside.seat _ _ c.self.view_is c.load_fields-fields.ensures.loads in whole_again _ _ _ (ask_of c.args.kind) c.args.first c.load_fields-fields.result c.load_counter-count.result c.requires.way c.requires.at g c.load_fields-fields.ensures.long c.load_counter-count.ensures.view _ c.load_turn-last.result c.load_turn-last.ensures.view c.load_turn-last.ensures.learns.seen c.if-last-first.true
