@@ -65,7 +65,7 @@ pub record IsReplayed (options : Options) (freq : ℕ) (all : List Stamp) (pen :
   -- it has as many entries as attempts were asked for, each of its kind
   pub attempts : EachKept pen (λ i k. AreAttempts freq options.back options.reads (map entry_of k.entries))
   -- each entry is current at the first load of its call
-  pub current : EachKept pen (λ i k. AreSince k.entries)
+  pub current : EachKept pen (λ i k. AreSince pen.journal k.entries)
   -- no count in it is past the plan's greatest
   pub within : EachKept pen (λ i k. AreWithin (greatest (steps_by freq options.ticks all)) (map entry_of k.entries))
   -- and none was asked for that the counter had not reached

@@ -35,7 +35,7 @@ const MOST_TICKS: usize = 1 << 62;
 ///
 /// Contracts see its table, its journal, for how many more ticks it has room, the counters that it
 /// loaded, its top (the greatest count that it, or a crank that it took back, raised the counter
-/// to), whether a crank is out, how many passes were ever made, and what it kept of those that it
+/// to), the counter as each raise of its own left it, whether a crank is out, how many passes were ever made, and what it kept of those that it
 /// took in.
 #[derive(Drop)]
 pub struct Pen {
@@ -59,6 +59,7 @@ impl Model for Pen {
       spare = room_of (vec_capacity p.ticks) - vec_len p.ticks;
       counters = p.seat.view.counters;
       top = p.top;
+      met = p.seat.view.met;
       out = p.out;
       made = p.made;
       kept = p.seat.view.kept;
@@ -70,7 +71,7 @@ impl Model for Pen {
 impl Pen {
     // The pen of a clock that was never set. Want of memory is the only error.
     pub(crate) fn new(alloc: Global) -> Result<Pen, NoMemory>
-        ensures { IfOk result (λ p. p ≡ new_pen p.table p.spare []) }
+        ensures { IfOk result (λ p. p ≡ new_pen p.table p.spare [] []) }
     {
         let seat = PenSeat::new(alloc)?;
         let mut ticks = Vec::new(alloc);
@@ -105,10 +106,11 @@ impl Pen {
     }
 
     /// Raises the counter to a count below 2^62, where it is not past it. It never falls. The
-    /// answer is the counter then.
+    /// answer is the counter as this raise left it.
     pub fn advance(&mut self, to: u64) -> u64
         requires { to < 2 ^ 62 }
-        ensures after { self.new ≡ record self.old { top = max self.old.top to } }
+        ensures after { self.new ≡
+            record self.old { top = max self.old.top to; met = self.old.met ++ result ∷ [] } }
         ensures counter { IsCounter self.new result }
     {
         self.top = self.top.max(to);
@@ -208,7 +210,7 @@ impl Pen {
     ///
     /// Each entry is what the journal allows, and current at the turn word that its call loaded
     /// first; the counts of its readings, but for intervals, are below 2^62, and while no crank is
-    /// out at most the pen's top. What was kept of the passes before is legal over the journal as it
+    /// out at most the pen's top. So is each counter that the pass loaded. What was kept of the passes before is legal over the journal as it
     /// stands now, too, so all that is kept can be compared. No two passes that were taken in have
     /// one number.
     pub fn take_in(&mut self, pass: Pass)
@@ -216,6 +218,7 @@ impl Pen {
         ensures after { self.new ≡
             record self.old { kept = self.old.kept ++ kept_of pass.view ∷ [] } }
         ensures legal { IsKeptLegal self.old.journal self.old.top self.old.out (kept_of pass.view) }
+        ensures counters { self.old.out ≡ false → AllBelow self.old.top pass.view.counters }
         ensures all { (i : ℕ) (k : Kept) → slice_get self.new.kept i ≡ Some k →
             IsKeptLegal self.old.journal self.old.top self.old.out k }
         ensures once { IsOnce self.new.kept }
@@ -269,7 +272,7 @@ impl Pen {
     // Whether nothing was done with this pen.
     pub(crate) fn is_fresh(&self) -> bool
         ensures fresh { result ≡ true →
-            self.now ≡ new_pen self.now.table self.now.spare self.now.counters }
+            self.now ≡ new_pen self.now.table self.now.spare self.now.counters self.now.met }
         ensures exact { (self.now.journal ≡ cold ∷ []) × (self.now.top ≡ 0) ×
             (self.now.out ≡ false) × (self.now.made ≡ 0) → result ≡ true }
     {

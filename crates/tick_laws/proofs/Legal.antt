@@ -155,34 +155,34 @@ module _ (w : World) (legal : IsJournal w.journal) (closed : w.turn ≡ 2 * (len
   entry_within o (Ahead c a) x f below e = below x e
 
 -- an entry is current at its opening value
-entry_since : (w : World) (o : ℕ) (e : Entry) → FitsEntry w o e → IsSince e o
+entry_since : (w : World) (o : ℕ) (e : Entry) → FitsEntry w o e → IsSince w.journal e o
 entry_since w o (Read r) f = subst (λ (z : Reading). IsReadSince (way_of z.kind) r.tick o) (sym f.is) f.tick
 entry_since w o (Again k a b) f = by_way (way_of k) f
   where
     by_way : (y : Way) → FitsAgain w y o a b → logs.IsMetSince y a o
     by_way full f = f.0
     by_way quick f = f.0
-    by_way past f = tt
-entry_since w o (TooOld c a) f = tt
+    by_way past f = ⊎_elim (λ (x : Crossed w o a b). inl x.0) (λ (x : (m : ℕ) × IsReadSince past m o × Overtaken w m a b). inr (x.0, x.1, x.2.0)) f
+entry_since w o (TooOld c a) f = record { tick = f.tick; tenth = f.later; hands = f.hands; at = to_Some w.journal f.tick f.hands f.at; oldest_is = f.is }
 entry_since w o (Ahead c a) f = tt
 
 -- the tick that it shows is that of its opening value
-tick_since : (e : Entry) (o x : ℕ) → IsSince e o → tick_shown e ≡ Some x → x ≡ o / 2
-tick_since (Read r) o x since e = by_way (way_of r.kind) since e
+tick_since : (ticks : List Hands) (e : Entry) (o x : ℕ) → IsSince ticks e o → tick_shown e ≡ Some x → x ≡ o / 2
+tick_since ticks (Read r) o x since e = by_way (way_of r.kind) since e
   where
     by_way : (y : Way) → IsReadSince y r.tick o → newest_by y r.tick ≡ Some x → x ≡ o / 2
     by_way full s e = sym (Some_same r.tick x e) ∙ s
     by_way quick s e = sym (Some_same r.tick x e) ∙ s
     by_way past s e = cc
-tick_since (Again k a b) o x since e = cc
-tick_since (TooOld c a) o x since e = cc
-tick_since (Ahead c a) o x since e = cc
+tick_since ticks (Again k a b) o x since e = cc
+tick_since ticks (TooOld c a) o x since e = cc
+tick_since ticks (Ahead c a) o x since e = cc
 
 module _ (w : World) (log : List Noted) (f : FitsLog w log) where
   opened_in_order : (i j : ℕ) (d e : Noted) → i < j → get_elem? log i ≡ some d → get_elem? log j ≡ some e → d.opening ≤ e.opening
   opened_in_order i j d e less a b = rises_at (map opening_of log) f.rises i j d.opening e.opening less (opening_at log i d a) (opening_at log j e b)
 
-  pub log_since : AreSince log
+  pub log_since : AreSince w.journal log
   log_since = record {
     each = λ k e at. entry_since w e.opening e.entry (f.each k e (to_some log k e at));
     rise = λ i j d e less a b. opened_in_order i j d e less (to_some log i d a) (to_some log j e b);
@@ -196,7 +196,7 @@ module _ (w : World) (log : List Noted) (f : FitsLog w log) where
     log_legal = record {
       each = λ k e at. let n = noted_at log k e at in subst (IsEntry w.journal) n.2 (entry_legal w legal closed some-tick bound reached n.0.opening n.0.entry (f.below k n.0.opening (opening_at log k n.0 n.1)) (f.each k n.0 n.1));
       ticks_rise = λ i j x y d e less a b p q. let m = noted_at log i d a in let n = noted_at log j e b in
-          ticks_in_order x y m.0.opening n.0.opening (tick_since m.0.entry m.0.opening x (entry_since w m.0.opening m.0.entry (f.each i m.0 m.1)) (ap tick_shown m.2 ∙ p)) (tick_since n.0.entry n.0.opening y (entry_since w n.0.opening n.0.entry (f.each j n.0 n.1)) (ap tick_shown n.2 ∙ q))
+          ticks_in_order x y m.0.opening n.0.opening (tick_since w.journal m.0.entry m.0.opening x (entry_since w m.0.opening m.0.entry (f.each i m.0 m.1)) (ap tick_shown m.2 ∙ p)) (tick_since w.journal n.0.entry n.0.opening y (entry_since w n.0.opening n.0.entry (f.each j n.0 n.1)) (ap tick_shown n.2 ∙ q))
           (opened_in_order i j m.0 n.0 less m.1 n.1);
       counts_rise = λ i j x y d e less a b p q. let m = noted_at log i d a in let n = noted_at log j e b in counts_at log f.counts_rise i j x y m.0 n.0 less m.1 n.1 (ap count_shown m.2 ∙ p) (ap count_shown n.2 ∙ q);
     }

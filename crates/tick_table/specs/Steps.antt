@@ -17,7 +17,7 @@ use Rattle.tick_views.specs.declared.views.PenView.{PenView}
 use Rattle.tick_views.specs.declared.views.PassView.{PassView}
 use Rattle.tick_views.specs.declared.views.View.{View}
 use Rattle.tick_views.specs.Worlds.{AllBelow, FitsKept}
-use Rattle.tick_views.specs.Views.{turn_started, mark_started, field_stored, mark_set, turn_closed, pen_counted, top_raised, on_pen, pen_of, on_crank, crank_of, scan_of, turn_loaded, counter_loaded, field_loaded, mark_loaded, call_begun, on_pass, pass_of}
+use Rattle.tick_views.specs.Views.{turn_started, mark_started, field_stored, mark_set, turn_closed, pen_counted, top_raised, on_pen, pen_of, on_crank, crank_of, crank_raised, scan_of, turn_loaded, counter_loaded, field_loaded, mark_loaded, call_begun, on_pass, pass_of}
 use Rattle.tick_table.specs.Rule.{IsOnce, turn_now, world_of}
 
 -- what a seat knows
@@ -85,10 +85,10 @@ abbrev pub LoadsOwnCounter : Step (Unit {0}) → Sat → ℕ → Sat → Type 0
 LoadsOwnCounter st m r m' = (m' ≡ (on_pen (pen_counted r) m.0, m.1)) × LearnsCounter (pen_of m.0) r
 
 abbrev pub Raises : Step (Unit {0}) → Sat → ℕ → Sat → Type 0
-Raises st m r m' = (m' ≡ (on_pen (top_raised st.first) m.0, m.1)) × LearnsCounter (pen_of m.0) r
+Raises st m r m' = (m' ≡ (on_pen (top_raised st.first (max r st.first)) m.0, m.1)) × LearnsCounter (pen_of m.0) r
 
 abbrev pub Cranks : Step (Unit {0}) → Sat → ℕ → Sat → Type 0
-Cranks st m r m' = (m' ≡ (on_crank (λ top. max top st.first) m.0, m.1)) × (crank_of m.0 ≤ r) × (r < 2 ^ 62)
+Cranks st m r m' = (m' ≡ (on_crank (crank_raised st.first (max r st.first)) m.0, m.1)) × ((crank_of m.0).top ≤ r) × (r < 2 ^ 62)
 
 abbrev pub Opens : Ask → Step (Unit {0}) → Sat → ℕ → Sat → Type 0
 Opens ask st m r m' = (m' ≡ (on_pass (λ v. turn_loaded r (call_begun ask v)) m.0, m.1)) × LearnsTurn (pass_of m.0) r

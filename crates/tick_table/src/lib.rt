@@ -19,7 +19,7 @@ mod tests;
 
 pub use crank::CrankSeat;
 pub use hand_words::{FIELDS, pack, unpack};
-pub use laws::ticks_keep_entries;
+pub use laws::{ticks_keep_entries, words_stand_in_their_places};
 pub use note::NoteSeat;
 pub use pass::PassSeat;
 pub use pen::PenSeat;

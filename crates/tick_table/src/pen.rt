@@ -52,7 +52,7 @@ impl Model for PenSeat {
 
 // The words at the start: the turn word and the counter are 0, and slot 0 has the full mark of tick 0
 // and the cold hands, whose packed word is 261.
-const FIRST: [u64; 162] = [
+pub(crate) const FIRST: [u64; 162] = [
     0, 0, 2, 0, 0, 0, 0, 0, 0, 0, 0, 0, 0, 0, 0, 0, 0, 261, 0, 0, 0, 0, 0, 0, 0, 0, 0, 0, 0, 0, 0,
     0, 0, 0, 0, 0, 0, 0, 0, 0, 0, 0, 0, 0, 0, 0, 0, 0, 0, 0, 0, 0, 0, 0, 0, 0, 0, 0, 0, 0, 0, 0, 0,
     0, 0, 0, 0, 0, 0, 0, 0, 0, 0, 0, 0, 0, 0, 0, 0, 0, 0, 0, 0, 0, 0, 0, 0, 0, 0, 0, 0, 0, 0, 0, 0,
@@ -178,11 +178,11 @@ impl PenSeat {
     }
 
     /// Raises the counter to a count below 2^62, where it is not past it, by one step that takes the
-    /// greater. The answer is the counter then.
+    /// greater. The answer is the counter as that step left it.
     pub fn raise_counter(&mut self, to: u64) -> u64
         requires { to < 2 ^ 62 }
         ensures table { self.new.table ≡ self.old.table }
-        ensures view { self.new.view ≡ top_raised to self.old.view }
+        ensures view { self.new.view ≡ top_raised to result self.old.view }
         ensures learns { LearnsCounter self.new.view result }
     {
         let old = self.table.shared.fetch_max::<Raise>(&mut self.seat, 1, to);
@@ -235,7 +235,7 @@ impl PenSeat {
         requires home { self.old.view.out ≡ false }
         ensures table { self.new.table ≡ self.old.table }
         ensures view { self.new.view ≡ crank_lent self.old.view }
-        ensures crank { (result.table ≡ self.old.table) × (result.top ≡ 0) }
+        ensures crank { (result.table ≡ self.old.table) × (result.top ≡ 0) × (result.met ≡ []) }
     {
         let Some(share) = self.spare.take() else {
             unreachable!()

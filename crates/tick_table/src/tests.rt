@@ -6,6 +6,7 @@ ghost use Rattle.clock_lines.specs.declared.readings.Kind.TheVariants.{Abs};
 ghost use Rattle.ff_hands.specs.Journals.{IsSound};
 ghost use Rattle.tick_views.specs.Views.{noted, scan_of};
 
+use crate::pen::FIRST;
 use crate::{FIELDS, PassSeat, PenSeat, Words, pack, unpack};
 use clock_lines::Kind;
 use ff_grain::Bintime;
@@ -101,6 +102,18 @@ fn open_full(words: &Words, pass: &mut PassSeat) -> u64
 }
 
 #[test]
+fn a_new_table_has_the_cold_tick_alone(rt: HostRuntime) {
+    for i in 0..FIRST.len() {
+        let word = match i {
+            2 => 2,
+            17 => 261,
+            _ => 0,
+        };
+        assert_eq!(rt; FIRST[i], word, "word {i}");
+    }
+}
+
+#[test]
 fn a_fast_read_needs_no_closed_turn(rt: HostRuntime) -> Result<(), Fail> {
     let mut pen = PenSeat::new(rt.alloc())?;
     let share = pen.share()?;
@@ -109,6 +122,7 @@ fn a_fast_read_needs_no_closed_turn(rt: HostRuntime) -> Result<(), Fail> {
     let mut crank = pen.split_crank();
     assert_eq!(rt; crank.raise_counter(7), 7);
     assert_eq!(rt; crank.raise_counter(5), 7);
+    assert_eq!(rt; pen.raise_counter(6), 7);
     pen.start_turn();
     assert_eq!(rt; pen.load_counter(), 7);
     let turn = open_fast(words, &mut pass);

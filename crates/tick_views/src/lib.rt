@@ -7,4 +7,4 @@ mod laws;
 mod views;
 
 pub use laws::views_stay_fit;
-pub use views::{MarkLoad, PassView, PenView, View};
+pub use views::{CrankView, MarkLoad, PassView, PenView, View};

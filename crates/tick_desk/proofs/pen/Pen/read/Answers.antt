@@ -44,5 +44,5 @@ returns c =
       counter = counter;
       counter_is = counter-shown c.self.inside.seat.view (the_view c.self.inside) counter c.self.invariant.journal refl c.self.invariant.top_is c.self.invariant.out_is c.self.invariant.legal c.load_counter-counter.ensures.learns;
       reading = reading_newest c.self.inside.ticks.items c.newest-last.result c.args.kind c.len.result c.match-kind.count counter c.reading.result (c.newest-last.ensures.value ∙ ap (λ (s : PenShows). newest s.journal) (sym c.self.view_is)) many at c.reading.ensures;
-      after = λ i. record (the_view c.self.inside) { table = c.load_counter-counter.ensures.table i; counters = (c.load_counter-counter.ensures.view i).counters; kept = (c.load_counter-counter.ensures.view i).kept };
+      after = λ i. record (the_view c.self.inside) { table = c.load_counter-counter.ensures.table i; counters = (c.load_counter-counter.ensures.view i).counters; met = (c.load_counter-counter.ensures.view i).met; kept = (c.load_counter-counter.ensures.view i).kept };
     }
