@@ -107,6 +107,7 @@ impl Pen {
 
     /// Raises the counter to a count below 2^62, where it is not past it. It never falls. The
     /// answer is the counter as this raise left it.
+    #[inline(always)]
     pub fn advance(&mut self, to: u64) -> u64
         requires { to < 2 ^ 62 }
         ensures after { self.new ≡
@@ -118,6 +119,7 @@ impl Pen {
     }
 
     // The newest tick.
+    #[inline(always)]
     fn newest(&self) -> Hands
         ensures value { result ≡ newest self.now.journal }
         ensures sound { IsSound result }
@@ -137,6 +139,7 @@ impl Pen {
     /// count is above the counter, which is loaded for that, and told. After either nothing has
     /// changed. Else the turn word is opened and the counter is loaded, as the new tick's count.
     /// After FreeBSD's `ffclock_windup`.
+    #[inline(always)]
     pub fn wind(&mut self, o: Order) -> Result<u64, Refuse>
         requires sane { is_sane o ≡ true }
         requires spare { 1 ≤ self.old.spare }

@@ -179,6 +179,7 @@ impl PenSeat {
 
     /// Raises the counter to a count below 2^62, where it is not past it, by one step that takes the
     /// greater. The answer is the counter as that step left it.
+    #[inline(always)]
     pub fn raise_counter(&mut self, to: u64) -> u64
         requires { to < 2 ^ 62 }
         ensures table { self.new.table ≡ self.old.table }
