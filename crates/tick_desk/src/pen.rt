@@ -68,6 +68,19 @@ impl Model for Pen {
     ghost invariant = { λ p. PenHolds p.seat.view p.ticks.items p.top p.out p.made };
 }
 
+// The newest tick, where it stands.
+#[inline(always)]
+fn newest(ticks: &Vec<Hands>) -> &Hands
+    requires { IsJournal ticks.now.items }
+    ensures value { result.now ≡ newest ticks.now.items }
+    ensures sound { IsSound result.now }
+{
+    match ticks.last() {
+        Some(h) => h,
+        None => unreachable!(),
+    }
+}
+
 impl Pen {
     // The pen of a clock that was never set. Want of memory is the only error.
     pub(crate) fn new(alloc: Global) -> Result<Pen, NoMemory>
@@ -118,19 +131,6 @@ impl Pen {
         self.seat.raise_counter(to)
     }
 
-    // The newest tick.
-    #[inline(always)]
-    fn newest(&self) -> Hands
-        ensures value { result ≡ newest self.now.journal }
-        ensures sound { IsSound result }
-        ensures some { 0 < length self.now.journal }
-    {
-        match self.ticks.last() {
-            Some(h) => *h,
-            None => unreachable!(),
-        }
-    }
-
     /// Winds the clock by an order, at the counter. There has to be room for one more tick, and the
     /// order has to be sane. The answer is the number of the new tick.
     ///
@@ -145,13 +145,13 @@ impl Pen {
         requires spare { 1 ≤ self.old.spare }
         ensures { Winds self.old self.new o result }
     {
-        let last = self.newest();
+        let last = newest(&self.ticks);
         let tick = self.ticks.len() as u64;
-        if let Some(why) = refusal(&mut self.seat, &last, &o) {
+        if let Some(why) = refusal(&mut self.seat, last, &o) {
             return Err(why);
         }
         let count = open(&mut self.seat);
-        let hands = wind(&last, count, &o);
+        let hands = wind(last, count, &o);
         publish(&mut self.seat, tick, &hands);
         self.ticks.push_reserved(hands);
         Ok(tick)
@@ -163,14 +163,14 @@ impl Pen {
         requires { IsReadable kind }
         ensures { ReadsNewest self.old self.new kind result }
     {
-        let last = self.newest();
+        let last = newest(&self.ticks);
         let counter = self.seat.load_counter();
         let count = match kind {
             Kind::Fast => last.count,
             Kind::Diff | Kind::Back => unreachable!(),
             Kind::Abs | Kind::Mono | Kind::Uptime | Kind::Utc => counter,
         };
-        reading(kind, self.ticks.len() as u64 - 1, &last, count)
+        reading(kind, self.ticks.len() as u64 - 1, last, count)
     }
 
     /// A note of the whole journal.
