@@ -1,10 +1,10 @@
 -- A number from 10^8 on is written in two parts, of which the last has eight digits.
-use Rattle.std.proofs.Common.{◌≡◌, ℕ, ◌+◌, ◌-◌, ◌*◌, ◌/◌, ◌%◌, ◌^◌, ◌<◌, ◌≤◌, List, [], ◌∷◌, ◌++◌, length, take, drop, refl, ap, sym, ◌∙◌, arith, append_assoc, length-append}
+use Rattle.std.proofs.Common.{◌≡◌, ℕ, ◌+◌, ◌-◌, ◌/◌, ◌%◌, ◌^◌, ◌<◌, ◌≤◌, List, [], ◌∷◌, ◌++◌, length, take, drop, refl, ap, sym, ◌∙◌, arith, append_assoc, length-append}
 use Rattle.std.proofs.Math.Seq.{drop-append_seam}
 use Rattle.std.proofs.lemmas.List.{drop-drop, length-take-le}
 use borrow.Rule.Slice.PartMut.{put_mid}
 use Rattle.std.specs.Fmt.{decimal}
-use Rattle.std.proofs.lemmas.Fmt.{decimal_step}
+use Rattle.std.proofs.lemmas.Fmt.{decimal_step, length-decimal-le}
 use Rattle.digit_words.specs.Digits.{digit, eight_digits}
 
 -- the last two digits apart from the rest
@@ -45,5 +45,9 @@ put_before at xs ys room within =
     let start = at - 8 in
     let rest = ys ++ drop (at - start) (drop start xs) in
     ap (λ n. drop n (take start xs ++ rest)) (sym (length-take-le start xs (omega arith)))
-        ∙ drop-append_seam (take start xs) rest
-        ∙ ap (λ l. ys ++ l) (drop-drop (at - start) start xs ∙ ap (λ n. drop n xs) (omega arith))
+    ∙ drop-append_seam (take start xs) rest
+    ∙ ap (λ l. ys ++ l) (drop-drop (at - start) start xs ∙ ap (λ n. drop n xs) (omega arith))
+
+-- a number of 64 bits has at most twenty digits
+pub most_digits : (n : ℕ) → n < 2 ^ 64 → length (decimal n) ≤ 20
+most_digits n below = length-decimal-le 20 n (omega arith) (omega arith) (omega arith)
