@@ -1,11 +1,13 @@
 // What views may know of a small world, and what not.
-ghost use Rattle.std.specs.Prelude.{◌≡◌, ◌∷◌, []};
+ghost use Rattle.std.specs.Prelude.{◌≡◌, ℕ, max, ◌++◌, ◌∷◌, []};
 ghost use Rattle.clock_logs.specs.Legal.{full, quick, past};
 ghost use Rattle.clock_lines.specs.declared.readings.Entry.TheVariants as entry;
 ghost use Rattle.tick_views.specs.Samples.{small};
-ghost use Rattle.tick_views.specs.Views.{kept_of};
+ghost use Rattle.tick_views.specs.Views.{crank_raised, kept_of, top_raised};
 ghost use Rattle.tick_views.specs.Worlds.{AllBelow, FitsAgain, FitsEntry, Rises};
+ghost use Rattle.tick_views.specs.declared.views.CrankView.{CrankView};
 ghost use Rattle.tick_views.specs.declared.views.PassView.{PassView};
+ghost use Rattle.tick_views.specs.declared.views.PenView.{PenView};
 
 /// The law that the pen keeps all that a pass was answered and loaded of the counter.
 pub fn passes_are_kept_whole()
@@ -13,6 +15,13 @@ pub fn passes_are_kept_whole()
     ensures seen { (v : PassView) → (kept_of v).seen ≡ v.seen }
     ensures counters { (v : PassView) → (kept_of v).counters ≡ v.counters }
     ensures entries { (v : PassView) → (kept_of v).entries ≡ v.entries }
+{}
+
+/// The law that a raise, by the pen or by the crank, is kept with the counter as it left it, and that the top
+/// is the greatest count that was asked for.
+pub fn raises_are_kept()
+    ensures pen { (to met : ℕ) (p : PenView) → ((top_raised to met p).top ≡ max p.top to) × ((top_raised to met p).met ≡ p.met ++ met ∷ []) }
+    ensures crank { (to met : ℕ) (k : CrankView) → ((crank_raised to met k).top ≡ max k.top to) × ((crank_raised to met k).met ≡ k.met ++ met ∷ []) }
 {}
 
 /// The law that a call is made again only for a cause: beside a windup that stood open or came, or the slot
