@@ -95,7 +95,9 @@ impl Pass {
         ensures table { self.new.table ≡ self.old.table }
         ensures calls { Calls self.old.view self.new.view (ask_of kind) (Turn result.first ∷ []) }
     {
-        let first = self.seat.open_call(self.share.words(), Ask { kind, given: 0 });
+        let first = self
+            .seat
+            .open_call(self.share.words(), Ask { kind, given: 0 });
         Begun {
             kind,
             first,

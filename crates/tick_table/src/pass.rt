@@ -72,10 +72,7 @@ impl PassSeat {
         ensures table { self.new.table ≡ self.old.table }
         ensures view { self.new.view ≡ field_loaded field result self.old.view }
     {
-        words.shared.load::<LoadField>(
-            &mut self.seat,
-            2 + 16 * slot as usize + 1 + field as usize,
-        )
+        words.shared.load::<LoadField>(&mut self.seat, 2 + 16 * slot as usize + 1 + field as usize)
     }
 
     /// Loads the mark of the tick that the call is at, behind its fifteen fields. Where the mark is
@@ -132,8 +129,6 @@ impl PassSeat {
         ensures view { self.new.view ≡ learned self.old.view note.seen }
     {
         let NoteSeat { seat } = note;
-        words
-            .shared
-            .join_seat::<TakePass>(&mut self.seat, seat);
+        words.shared.join_seat::<TakePass>(&mut self.seat, seat);
     }
 }

@@ -83,10 +83,13 @@ fn open_fast(words: &Words, pass: &mut PassSeat) -> u64
     ensures calling { pass.new.view.calling ≡ true }
     ensures tick { (scan_of pass.new.view).tick ≡ result / 2 }
 {
-    pass.open_call(words, Ask {
-        kind: Kind::Fast,
-        given: 0,
-    })
+    pass.open_call(
+        words,
+        Ask {
+            kind: Kind::Fast,
+            given: 0,
+        },
+    )
 }
 
 // A full read that meets an odd turn word is over at once, and shows that word twice.
@@ -95,10 +98,13 @@ fn open_full(words: &Words, pass: &mut PassSeat) -> u64
     requires first { pass.old.view.entries ≡ [] }
     ensures { result % 2 ≡ 1 → pass.new.view.entries ≡ noted (Again Abs result result) result ∷ [] }
 {
-    pass.open_call(words, Ask {
-        kind: Kind::Abs,
-        given: 0,
-    })
+    pass.open_call(
+        words,
+        Ask {
+            kind: Kind::Abs,
+            given: 0,
+        },
+    )
 }
 
 #[test]
