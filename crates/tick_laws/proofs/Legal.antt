@@ -24,7 +24,7 @@ use Rattle.clock_logs.specs.Logs.{IsAgain, IsEntry, tick_shown, newest_by, count
 use Rattle.clock_logs.proofs.Places.{counts-rise}
 use Rattle.tick_reads.specs.Ways.{needs_even, count_by}
 use Rattle.tick_views.specs.declared.views.PenView.{PenView}
-use Rattle.tick_views.specs.Worlds.{World, Rises, opening_of, IsTimely, FitsCount, FitsRead, Crossed, Overtaken, FitsAgain, FitsEntry, count_if, counts_in, counts_of, FitsLog, FitsKept, AllBelow, or_else}
+use Rattle.tick_views.specs.Worlds.{World, NeverFall, opening_of, IsTimely, FitsCount, FitsRead, MetWindup, LostSlot, FitsAgain, FitsEntry, count_if, counts_in, counts_of, FitsLog, FitsKept, AllBelow, or_else}
 use Rattle.tick_views.proofs.Grow.{in_list}
 use Rattle.tick_views.proofs.Loads.{there}
 use Rattle.tick_table.specs.Rule.{world_of}
@@ -33,14 +33,14 @@ use Rattle.tick_table.proofs.Lists.{Some_same, to_some, to_Some}
 use Rattle.tick_laws.specs.Logs.{IsKeptLegal}
 
 -- of two members that never fall the later one is not less
-rises_at : (xs : List ℕ) → Rises xs → (i j x y : ℕ) → i < j → get_elem? xs i ≡ some x → get_elem? xs j ≡ some y → x ≤ y
+rises_at : (xs : List ℕ) → NeverFall xs → (i j x y : ℕ) → i < j → get_elem? xs i ≡ some x → get_elem? xs j ≡ some y → x ≤ y
 rises_at [] r i j x y less a b = absurd (some-ne-none x (sym a))
 rises_at (z ∷ xs) r zero zero x y less a b = absurd (omega arith)
 rises_at (z ∷ xs) r zero (suc j) x y less a b = subst (λ k. k ≤ y) (some-injective z x a) (r.0 j y b)
 rises_at (z ∷ xs) r (suc i) zero x y less a b = absurd (omega arith)
 rises_at (z ∷ xs) r (suc i) (suc j) x y less a b = rises_at xs r.1 i j x y (omega arith) a b
 
-rises_rest : (xs ys : List ℕ) → Rises (xs ++ ys) → Rises ys
+rises_rest : (xs ys : List ℕ) → NeverFall (xs ++ ys) → NeverFall ys
 rises_rest [] ys r = r
 rises_rest (x ∷ xs) ys r = rises_rest xs ys r.1
 
@@ -76,11 +76,11 @@ count_among [] i c n at shown = absurd (some-ne-none n (sym at))
 count_among (x ∷ xs) zero c n at shown = let is = counts_of_it x.entry c (ap (λ (z : Noted). count_shown z.entry) (some-injective x n at) ∙ shown) in (0, ap (λ l. get_elem? (l ++ counts_of xs) 0) is)
 count_among (x ∷ xs) (suc i) c n at shown = let r = count_among xs i c n at shown in at_right (counts_in x.entry) (counts_of xs) r.0 c r.1
 
-counts_at : (log : List Noted) → Rises (counts_of log) → (i j x y : ℕ) (d e : Noted) → i < j → get_elem? log i ≡ some d → get_elem? log j ≡ some e → count_shown d.entry ≡ Some x → count_shown e.entry ≡ Some y → x ≤ y
+counts_at : (log : List Noted) → NeverFall (counts_of log) → (i j x y : ℕ) (d e : Noted) → i < j → get_elem? log i ≡ some d → get_elem? log j ≡ some e → count_shown d.entry ≡ Some x → count_shown e.entry ≡ Some y → x ≤ y
 counts_at [] r i j x y d e less a b p q = absurd (some-ne-none d (sym a))
 counts_at (n ∷ ns) r zero zero x y d e less a b p q = absurd (omega arith)
 counts_at (n ∷ ns) r zero (suc j) x y d e less a b p q = let is = counts_of_it n.entry x (ap (λ (z : Noted). count_shown z.entry) (some-injective n d a) ∙ p) in
-    let rises : Rises (x ∷ counts_of ns) = subst (λ l. Rises (l ++ counts_of ns)) is r in let m = count_among ns j y e b q in rises.0 m.0 y m.1
+    let rises : NeverFall (x ∷ counts_of ns) = subst (λ l. NeverFall (l ++ counts_of ns)) is r in let m = count_among ns j y e b q in rises.0 m.0 y m.1
 counts_at (n ∷ ns) r (suc i) zero x y d e less a b p q = absurd (omega arith)
 counts_at (n ∷ ns) r (suc i) (suc j) x y d e less a b p q = counts_at ns (rises_rest (counts_in n.entry) (counts_of ns) r) i j x y d e (omega arith) a b p q
 
@@ -126,13 +126,13 @@ module _ (w : World) (legal : IsJournal w.journal) (closed : w.turn ≡ 2 * (len
   read_legal : (o : ℕ) (r : Reading) → FitsRead w o r → IsReading w.journal r
   read_legal o r f = subst (IsReading w.journal) (sym f.is) record { hands = f.hands; tick = to_Some w.journal r.tick f.hands f.at; time = refl; bound = refl; place = placed f.ask.given r.tick f.hands f.counter f.at f.ask.kind f.count }
 
-  crossed_legal : (o first last : ℕ) → Crossed w o first last → logs.Crossed w.journal first last
+  crossed_legal : (o first last : ℕ) → MetWindup w o first last → logs.Crossed w.journal first last
   crossed_legal o first last f = let below : last ≤ w.turn = f.1 in record {
     met = ⊎_elim (λ (open_one : (first ≡ last) × (first % 2 ≡ 1)). inl (open_one.1, sym open_one.0)) (λ (came : (first < last) × (first % 2 ≡ 0)). inr (came.1, came.0)) f.2;
     made = omega arith;
   }
 
-  overtaken_legal : (m o first last : ℕ) → m ≤ o / 2 → o ≤ w.turn → Overtaken w m first last → logs.Overtaken w.journal first last
+  overtaken_legal : (m o first last : ℕ) → m ≤ o / 2 → o ≤ w.turn → LostSlot w m first last → logs.Overtaken w.journal first last
   overtaken_legal m o first last near began f = let k : ℕ = f.1.0 in let up : m + 10 ≤ k = f.1.2 in let same : k % 10 ≡ m % 10 = f.1.3 in let top : k ≤ (w.turn + 1) / 2 = f.1.4 in
       let k-is : (last - 1) / 2 ≡ k = ⊎_elim (λ (odd : last ≡ 2 * k + 1). omega arith) (λ (even : last ≡ 2 * k + 2). omega arith) f.1.1 in
       record { tick = m; there = omega arith; mark = f.0; later = omega arith; slot = ap (λ t. t % 10) k-is ∙ same; made = omega arith }
@@ -140,7 +140,7 @@ module _ (w : World) (legal : IsJournal w.journal) (closed : w.turn ≡ 2 * (len
   again_legal : (y : Way) (o first last : ℕ) → o ≤ w.turn → FitsAgain w y o first last → IsAgain y w.journal first last
   again_legal full o first last began f = crossed_legal o first last f
   again_legal quick o first last began f = overtaken_legal (o / 2) o first last (le_refl (o / 2)) began f
-  again_legal past o first last began f = ⊎_elim (λ (x : Crossed w o first last). inl (crossed_legal o first last x)) (λ (x : (m : ℕ) × IsReadSince past m o × Overtaken w m first last). inr (overtaken_legal x.0 o first last x.1.0 began x.2)) f
+  again_legal past o first last began f = ⊎_elim (λ (x : MetWindup w o first last). inl (crossed_legal o first last x)) (λ (x : (m : ℕ) × IsReadSince past m o × LostSlot w m first last). inr (overtaken_legal x.0 o first last x.1.0 began x.2)) f
 
   entry_legal : (o : ℕ) (e : Entry) → o ≤ w.turn → FitsEntry w o e → IsEntry w.journal e
   entry_legal o (Read r) began f = read_legal o r f
@@ -162,7 +162,7 @@ entry_since w o (Again k a b) f = by_way (way_of k) f
     by_way : (y : Way) → FitsAgain w y o a b → logs.IsMetSince y a o
     by_way full f = f.0
     by_way quick f = f.0
-    by_way past f = ⊎_elim (λ (x : Crossed w o a b). inl x.0) (λ (x : (m : ℕ) × IsReadSince past m o × Overtaken w m a b). inr (x.0, x.1, x.2.0)) f
+    by_way past f = ⊎_elim (λ (x : MetWindup w o a b). inl x.0) (λ (x : (m : ℕ) × IsReadSince past m o × LostSlot w m a b). inr (x.0, x.1, x.2.0)) f
 entry_since w o (TooOld c a) f = record { tick = f.tick; tenth = f.later; hands = f.hands; at = to_Some w.journal f.tick f.hands f.at; oldest_is = f.is }
 entry_since w o (Ahead c a) f = tt
 

@@ -4,7 +4,7 @@ ghost use Rattle.clock_logs.specs.Legal.{full, quick, past};
 ghost use Rattle.clock_lines.specs.declared.readings.Entry.TheVariants as entry;
 ghost use Rattle.tick_views.specs.Samples.{small};
 ghost use Rattle.tick_views.specs.Views.{crank_raised, kept_of, top_raised};
-ghost use Rattle.tick_views.specs.Worlds.{AllBelow, FitsAgain, FitsEntry, Rises};
+ghost use Rattle.tick_views.specs.Worlds.{AllBelow, FitsAgain, FitsEntry, NeverFall};
 ghost use Rattle.tick_views.specs.declared.views.CrankView.{CrankView};
 ghost use Rattle.tick_views.specs.declared.views.PassView.{PassView};
 ghost use Rattle.tick_views.specs.declared.views.PenView.{PenView};
@@ -53,6 +53,6 @@ pub fn other_answers_have_a_cause()
 
 /// The law of numbers that never fall, and of numbers that are none above another.
 pub fn numbers_fall()
-    ensures fall { Rises (4 ∷ 5 ∷ 3 ∷ []) → ⊥ }
+    ensures fall { NeverFall (4 ∷ 5 ∷ 3 ∷ []) → ⊥ }
     ensures above { AllBelow 5 (4 ∷ 6 ∷ []) → ⊥ }
 {}

@@ -1,4 +1,4 @@
-use Rattle.std.proofs.Common.{refl, arith}
+use Rattle.std.proofs.Common.{arith}
 use Rattle.clock_logs.specs.Rises.{line, uptime}
 use Rattle.ff_hands.specs.Samples.{ticks}
 use Rattle.clock_logs.proofs.Samples.{same_tick, two_rise}
