@@ -1,13 +1,12 @@
 -- A run whose lines go out in blocks.
-use Rattle.std.proofs.Common.{◌≡◌, ℕ, ◌-◌, ◌^◌, List, ◌++◌, Option, None, Result, Ok, Err, OnOk, OnErr, refl, ◌∙◌, arith}
-use Rattle.std.specs.List.{concat}
+use Rattle.std.proofs.Common.{◌≡◌, ℕ, ◌-◌, ◌^◌, List, Option, None, Result, Ok, Err, OnOk, OnErr, refl, ◌∙◌, arith}
 use Rattle.rad_io.specs.Blocks.{Gathering, IsFresh, BlockGives, Closes, Short}
-use Rattle.rad_io.specs.Pushes.{Wrote, Broke, Writes}
+use Rattle.rad_io.specs.Pushes.{Wrote, Broke}
 use Rattle.rad_io.specs.declared.Failed.{Failed}
 use Rattle.rad_io.proofs.InBlocks.{wrote-in-blocks, broke-in-blocks}
 use Rattle.clock_words.specs.declared.commands.Command.{Command}
 use Rattle.tick_desk.specs.declared.desk.Desk.{Desk}
-use Rattle.radclock.specs.Runs.{PushGives, Breaks, ByLines, ByBlocks, Ran, ends_with, PullGives}
+use Rattle.radclock.specs.Runs.{PushGives, ByLines, ByBlocks, Ran, ends_with, PullGives}
 use Rattle.radclock.specs.declared.status.Status.{Status}
 use Rattle.radclock.specs.declared.status.Status.TheVariants as status
 use Rattle.radclock.proofs.Running.{by-writes}

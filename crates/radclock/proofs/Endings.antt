@@ -1,5 +1,5 @@
 -- What follows of a run in bytes and in counts of faults.
-use Rattle.std.proofs.Common.{◌≡◌, ◌⊎◌, ℕ, ◌<◌, Bool, List, [], ◌∷◌, ◌++◌, Option, None, Some, Result, Ok, Err, length, take, refl, sym, ap, ap₂, ◌∙◌, subst, arith, append-nil, inl, inr}
+use Rattle.std.proofs.Common.{◌≡◌, ◌⊎◌, ℕ, Bool, List, [], ◌∷◌, ◌++◌, Option, None, Some, Result, Ok, Err, length, take, refl, sym, ap, ◌∙◌, subst, arith, append-nil, inl, inr}
 use Rattle.std.specs.List.{concat}
 use Rattle.std.specs.Io.KnownBytes.{Appends, Consumes, IsAtEnd, ReadConsumes}
 use Rattle.std.proofs.KnownBytes.{Consumes-trans, Consumes-kept}
@@ -22,15 +22,14 @@ use Rattle.tick_desk.specs.Shows.{PenShows}
 use Rattle.tick_desk.specs.declared.desk.Desk.{Desk}
 use Rattle.replay_run.specs.declared.plan.Options.{Options}
 use Rattle.ideal_world.specs.declared.deviations.Deviation.{Deviation}
-use Rattle.radclock.specs.Inputs.{takes_few, stop_so_far, stop_of_file, freq_of_file, stamps_of_file}
+use Rattle.radclock.specs.Inputs.{takes_few, stop_of_file, freq_of_file, stamps_of_file}
 use Rattle.radclock.specs.MadeRuns.{run_by}
 use Rattle.radclock.specs.Endings.{Leaves, replay_by}
-use Rattle.radclock.specs.Runs.{PushGives, Breaks, ByLines, ByBlocks, Writing, Headline, Holds, HoldsDone, HoldsShort, IsDue, Ran, done_lines, ends_with, lines_due, status_due, PullGives, ReadsTo, StopsBehind, broke_off, at_end, in_piece, out_of_memory}
+use Rattle.radclock.specs.Runs.{PushGives, ByLines, ByBlocks, Writing, Headline, Holds, HoldsDone, HoldsShort, IsDue, Ran, done_lines, ends_with, lines_due, status_due, PullGives, ReadsTo, StopsBehind, broke_off, at_end, in_piece, out_of_memory}
 use Rattle.radclock.specs.InBytes.{WasRead, WasDone, reported, filed, summarised, HeadlineInBytes, RunInBytes, TruthInBytes, MakesNone, WasFree}
-use Rattle.radclock.specs.Statuses.{status_of, status_by}
+use Rattle.radclock.specs.Statuses.{status_by}
 use Rattle.radclock.specs.Replays.{MadeTruth}
 use Rattle.radclock.specs.declared.inputs.Stop.{Stop}
-use Rattle.radclock.specs.declared.inputs.Stop.TheVariants as stop
 use Rattle.radclock.specs.declared.ran.Asked.{Asked}
 use Rattle.radclock.specs.declared.status.Status.{Status}
 use Rattle.radclock.specs.declared.status.Status.TheVariants as status

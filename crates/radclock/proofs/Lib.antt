@@ -19,4 +19,3 @@ pub mod Sound
 pub mod Running
 pub mod Blocking
 pub mod Endings
-pub mod Before

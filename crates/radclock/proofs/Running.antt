@@ -1,5 +1,5 @@
 -- How a run comes to be one over one text.
-use Rattle.std.proofs.Common.{◌≡◌, ◌⊎◌, ℕ, List, [], ◌∷◌, ◌++◌, Option, None, Some, Result, Ok, Err, length, refl, sym, ap, ◌∙◌, subst, inl, inr}
+use Rattle.std.proofs.Common.{◌≡◌, ℕ, List, [], ◌∷◌, Option, None, Some, Result, Ok, Err, refl, ap, ◌∙◌, subst, inl, inr}
 use Rattle.rad_io.specs.Pushes.{Broke, Writes}
 use Rattle.rad_io.specs.declared.Failed.{Failed}
 use Rattle.ff_hands.specs.Windups.{cold}
@@ -19,7 +19,7 @@ use Rattle.radclock.specs.Readings.{IsTaken}
 use Rattle.radclock.specs.MadeRuns.{run_by}
 use Rattle.radclock.specs.Statuses.{status_of, fault_of}
 use Rattle.radclock.specs.Endings.{EndsWith, Finishes, Summarises, Leaves}
-use Rattle.radclock.specs.Runs.{PushGives, Breaks, ByLines, Headline, Truth, Holds, HoldsDone, HoldsShort, IsRead, IsDue, Ran, ends_with, lines_due, PullGives, ReadsTo}
+use Rattle.radclock.specs.Runs.{PushGives, Breaks, ByLines, Headline, Holds, HoldsDone, HoldsShort, IsRead, IsDue, Ran, ends_with, lines_due, PullGives, ReadsTo}
 use Rattle.radclock.specs.declared.inputs.Stop.{Stop}
 use Rattle.radclock.specs.declared.inputs.Stop.TheVariants as stop
 use Rattle.radclock.specs.declared.ran.Asked.{Asked}

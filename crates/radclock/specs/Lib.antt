@@ -13,4 +13,3 @@ pub mod Runs
 pub mod InBytes
 pub mod Plays
 pub mod Exits
-pub mod Before

@@ -1,13 +1,11 @@
 // What follows of a run in bytes and in counts of faults.
 ghost use Rattle.std.specs.Prelude.{◌≡◌, ◌⊎◌, ℕ, List, [], ◌∷◌, Option, None, Some};
 ghost use Rattle.ff_hands.specs.Windups.{cold};
-ghost use Rattle.clock_words.specs.Lines.{command_in};
 ghost use Rattle.clock_words.specs.declared.commands.Command.{Command};
 ghost use Rattle.clock_words.specs.declared.commands.Command.TheVariants as command;
 ghost use Rattle.clock_words.specs.declared.commands.Report.{Report};
 ghost use Rattle.tick_desk.specs.declared.desk.Desk.{Desk};
 ghost use Rattle.replay_run.specs.declared.plan.Options.{Options};
-ghost use Rattle.radclock.specs.Before.{Ends, EndsInBlocks};
 ghost use Rattle.radclock.specs.Endings.{replay_by};
 ghost use Rattle.radclock.specs.InBytes.{HeadlineInBytes, MakesNone, RunInBytes, TruthInBytes, WasDone, WasFree};
 ghost use Rattle.radclock.specs.Inputs.{stop_of_file, takes_few};
@@ -25,11 +23,6 @@ use rad_io::{Sink, Source};
 /// them: what was done, read and appended, the headline and the truth over the bytes that were taken,
 /// and which status comes where nothing else interferes.
 pub fn lines_tell<S: Source, K: Sink>()
-    ensures ends { (words : List (List ℕ)) (source source' : S) (sink sink' : K) (desk desk' : Desk)
-        (result : Status) → desk.pen.journal ≡ cold ∷ [] → Ran S.pull_gives (ByLines K.push_gives)
-        (command_in words) source source' sink sink' desk desk' result →
-        Ends S.left S.faults S.pull_gives K.written K.faults K.push_gives words source source'
-        sink sink' desk desk' result }
     ensures done { (asked : Option Command) (source source' : S) (sink sink' : K) (desk desk' : Desk)
         (result : Status) →
         Ran S.pull_gives (ByLines K.push_gives) asked source source' sink sink' desk desk' result →
@@ -83,11 +76,6 @@ pub fn lines_tell<S: Source, K: Sink>()
 
 /// The same of a run whose lines went out in blocks.
 pub fn blocks_tell<S: Source, K: Sink>()
-    ensures ends { (words : List (List ℕ)) (source source' : S) (sink sink' : K) (desk desk' : Desk)
-        (result : Status) → desk.pen.journal ≡ cold ∷ [] → Ran S.pull_gives (ByBlocks K.push_gives)
-        (command_in words) source source' sink sink' desk desk' result →
-        EndsInBlocks S.left S.faults S.pull_gives K.written K.faults K.push_gives words source source'
-        sink sink' desk desk' result }
     ensures done { (asked : Option Command) (source source' : S) (sink sink' : K) (desk desk' : Desk)
         (result : Status) →
         Ran S.pull_gives (ByBlocks K.push_gives) asked source source' sink sink' desk desk' result →

@@ -1,5 +1,4 @@
 use Rattle.radclock.specs.Runs.{ByBlocks}
-use Rattle.radclock.proofs.Before.{blocks-before}
 use Rattle.radclock.proofs.Endings.{blocks-append, blocks-rose, complete-by, done-by, headline-by, made-by, made-truth-by, none-by, ran-by, summary-by, truth-by, usage-by}
 use Rattle.radclock.proofs.laws.blocks_tell.Goals as goal
 
@@ -62,9 +61,3 @@ returns-clause-ran g c =
     let s = g.met.S.Source in
     let k = g.met.K.Sink in
     ran-by g.S.Source.left g.S.Source.faults g.S.Source.pull_gives s.consumes s.cause g.K.Sink.written g.K.Sink.faults (ByBlocks g.K.Sink.push_gives) (blocks-append g.K.Sink.written g.K.Sink.faults g.K.Sink.push_gives k.appends k.cause) (blocks-rose g.K.Sink.written g.K.Sink.faults g.K.Sink.push_gives k.appends k.cause)
-
-pub returns-clause-ends : goal.returns-clause-ends
-returns-clause-ends g c =
-    let s = g.met.S.Source in
-    let k = g.met.K.Sink in
-    blocks-before g.S.Source.left g.S.Source.faults g.S.Source.pull_gives s.consumes s.cause g.K.Sink.written g.K.Sink.faults g.K.Sink.push_gives k.appends k.cause

@@ -1,5 +1,4 @@
 use Rattle.radclock.specs.Runs.{ByLines}
-use Rattle.radclock.proofs.Before.{ends-before}
 use Rattle.radclock.proofs.Endings.{complete-by, done-by, headline-by, lines-append, lines-rose, made-by, made-truth-by, none-by, ran-by, summary-by, truth-by, usage-by}
 use Rattle.radclock.proofs.laws.lines_tell.Goals as goal
 
@@ -62,9 +61,3 @@ returns-clause-ran g c =
     let s = g.met.S.Source in
     let k = g.met.K.Sink in
     ran-by g.S.Source.left g.S.Source.faults g.S.Source.pull_gives s.consumes s.cause g.K.Sink.written g.K.Sink.faults (ByLines g.K.Sink.push_gives) (lines-append g.K.Sink.written g.K.Sink.faults g.K.Sink.push_gives k.appends k.cause) (lines-rose g.K.Sink.written g.K.Sink.faults g.K.Sink.push_gives k.appends k.cause)
-
-pub returns-clause-ends : goal.returns-clause-ends
-returns-clause-ends g c =
-    let s = g.met.S.Source in
-    let k = g.met.K.Sink in
-    ends-before g.S.Source.left g.S.Source.faults g.S.Source.pull_gives s.consumes s.cause g.K.Sink.written g.K.Sink.faults g.K.Sink.push_gives k.appends k.cause

@@ -1,4 +1,4 @@
-use Rattle.std.proofs.Common.{ℕ, List, Result, Ok, Err, drop, map, subst}
+use Rattle.std.proofs.Common.{ℕ, List, Result, Ok, Err, map, subst}
 use Rattle.std.specs.Prelude.{IfOk, string_bytes}
 use Rattle.clock_words.specs.Lines.{command_in}
 use Rattle.radclock.specs.Runs.{ByBlocks, Ran}
