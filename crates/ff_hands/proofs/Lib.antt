@@ -2,3 +2,4 @@ pub mod Orders
 pub mod Winding
 pub mod Sounding
 pub mod Ticks
+pub mod Samples

@@ -3,3 +3,4 @@ pub mod Windups
 pub mod Journals
 pub mod Bounds
 pub mod Ranges
+pub mod Samples

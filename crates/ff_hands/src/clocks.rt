@@ -24,6 +24,7 @@ fn after(t: Bintime, counts: u64, period: u64) -> i128
 
 impl Estimate {
     // The time at a count that is not before the estimate's own, in grains of 2^-64 s.
+    #[inline(always)]
     pub(crate) fn time_at(&self, count: u64) -> i128
         requires sane { IsSane self.now }
         requires update { self.now.update_ffcount ≤ count }
@@ -40,6 +41,7 @@ impl Hands {
     /// The absolute clock at a count, in grains of 2^-64 s.
     ///
     /// The count is below 2^62, and not before that of the hands, which stand in a journal of ticks.
+    #[inline(always)]
     pub fn time_at(&self, count: u64) -> i128
         requires bounded { IsBounded self.now }
         requires later { self.now.count ≤ count }

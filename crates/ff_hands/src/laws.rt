@@ -14,6 +14,7 @@ ghost use Rattle.ff_hands.specs.declared.hands.Order.{Order};
 use crate::hands::Hands;
 
 /// Tells of hands in memory that each of their numbers fits a word.
+#[inline(always)]
 pub fn fits_words(h: Hands)
     ensures { FitsWords h }
 {}

@@ -5,6 +5,7 @@ mod clocks;
 mod estimates;
 mod hands;
 mod laws;
+mod refusals;
 #[cfg(test)]
 mod tests;
 mod windups;
@@ -15,4 +16,5 @@ pub use laws::{
     clocks_go_on, estimates_are_sane, fits_words, journals_grow, journals_rise,
     sound_hands_are_bounded, ticks_are_sound, windups_are_told, windups_follow,
 };
+pub use refusals::{other_lists_are_none, samples_are_journals, ticks_follow};
 pub use windups::wind;

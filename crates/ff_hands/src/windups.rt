@@ -20,6 +20,7 @@ const MOST_MADE_UP: u128 = 5_000_000;
 const NANOSECOND: u128 = 18_446_744_073;
 
 // Whether the estimate is more than 2048 whole seconds old.
+#[inline(always)]
 fn is_old(h: &Hands, count: u64) -> bool
     requires update { h.now.est.update_ffcount ≤ count }
     ensures { result ≡ is_old h.now count }
@@ -29,6 +30,7 @@ fn is_old(h: &Hands, count: u64) -> bool
 }
 
 // The clocks go on. After FreeBSD's `ffclock_windup` without a new estimate.
+#[inline(always)]
 fn plain(h: &Hands, count: u64) -> Hands
     requires bounded { IsBounded h.now }
     requires later { h.now.count ≤ count }
@@ -157,6 +159,7 @@ fn reset(count: u64, e: &Estimate) -> Hands
 }
 
 #[tactic(auto, unfolding(crate::specs::Windups::wind_of))]
+#[inline(always)]
 fn wound(h: &Hands, count: u64, o: &Order) -> Hands
     requires bounded { IsBounded h.now }
     requires fits { fits h.now count o.now ≡ true }
@@ -180,6 +183,7 @@ fn wound(h: &Hands, count: u64, o: &Order) -> Hands
 /// The hands have to stand in a journal of ticks, and the new ones then do. The absolute clock goes by
 /// the estimate. The uninterrupted clock goes on where it is, but for resets and the jumps of a
 /// warm-up; its slope is within a two-hundredth of the period.
+#[inline(always)]
 pub fn wind(h: &Hands, count: u64, o: &Order) -> Hands
     requires sound { IsSound h.now }
     requires fits { fits h.now count o.now ≡ true }

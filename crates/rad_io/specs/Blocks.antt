@@ -1,5 +1,5 @@
 -- What a sink does that gathers what is pushed into blocks.
-use Rattle.std.specs.Prelude.{◌≡◌, ℕ, ◌<◌, ◌⊎◌, List, [], ◌++◌, length, Option, None, Result, MatchResult, OnErr, IsErr}
+use Rattle.std.specs.Prelude.{◌≡◌, ℕ, ◌<◌, ◌≤◌, ◌⊎◌, List, [], ◌++◌, length, Option, None, Result, MatchResult, OnErr, IsErr}
 use Rattle.std.specs.List.{concat, All}
 use Rattle.rad_io.specs.Bytes.{PushAppends}
 use Rattle.rad_io.specs.Causes.{counted_on, HasCause}
@@ -24,6 +24,10 @@ block_bytes = 65536
 
 abbrev pub IsBlock : List ℕ → Type 0
 IsBlock block = length block ≡ block_bytes
+
+-- a push of no more bytes than a block has
+abbrev pub Short : {K : Type 0} → (K → List ℕ → Result (Unit {0}) Failed → K → Type 0) → K → List ℕ → Result (Unit {0}) Failed → K → Type 0
+Short push old piece result new = (length piece ≤ block_bytes) × push old piece result new
 
 -- whole blocks of what was held and of the piece were handed on, each by one push, none of which
 -- failed, and the rest is held

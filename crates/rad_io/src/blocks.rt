@@ -1,18 +1,18 @@
 // Output in blocks.
-ghost use Rattle.std.specs.Prelude.{◌≡◌, ◌+◌, ◌≤◌, length, None, IfOk, OnOk, OnErr};
-ghost use Rattle.rad_io.specs.Blocks.{BlockGives, Closes, HandsOn, IsFresh, StopsAt};
+ghost use Rattle.std.specs.Prelude.{◌≡◌, ◌+◌, ◌≤◌, length, None, IfOk, IfErr, OnOk, OnErr};
+ghost use Rattle.rad_io.specs.Blocks.{BlockGives, Closes, HandsOn, IsFresh, Short, StopsAt};
 
 use crate::{Failed, Sink};
 use ff_grain::NoMemory;
-use std::alloc::Global;
+use std::alloc::{AllocError, Global};
 use std::marker::Model;
 
 /// The bytes of a block.
 pub const BLOCK: usize = 65_536;
 
-/// A sink that gathers what is pushed into blocks of 65,536 bytes, and hands each block on to the
-/// sink behind it by one push. Once such a push failed, each push to it fails, and nothing more is
-/// handed on.
+/// A sink that gathers what is pushed into blocks of 65,536 bytes, the last of which may be shorter,
+/// and hands each block on to the sink behind it by one push. Once such a push failed, each push to
+/// it fails, and nothing more is handed on.
 #[derive(Drop)]
 pub struct BlockSink<K: Sink> {
     sink: K,
@@ -34,25 +34,27 @@ impl<K: Sink> Model for BlockSink<K> {
 
 impl<K: Sink> BlockSink<K> {
     /// A sink that holds nothing yet, before this one. `NoMemory` where memory for a block is
-    /// wanting.
-    pub fn new(alloc: Global, sink: K) -> Result<BlockSink<K>, NoMemory>
-    where
-        K: Drop,
-        ensures { IfOk result (λ s. IsFresh sink s) }
+    /// wanting, with this one as it was.
+    pub fn new(alloc: Global, sink: K) -> Result<BlockSink<K>, (NoMemory, K)>
+        ensures ok { IfOk result (λ s. IsFresh sink s) }
+        ensures err { IfErr result (λ e. e.1 ≡ sink) }
     {
-        Ok(BlockSink {
-            block: Vec::with_capacity(alloc, BLOCK)?,
-            sink,
-            faults: 0,
-        })
+        match Vec::with_capacity(alloc, BLOCK) {
+            Ok(block) => Ok(BlockSink {
+                sink,
+                block,
+                faults: 0,
+            }),
+            Err(AllocError) => Err((NoMemory, sink)),
+        }
     }
 
     // Takes bytes up to a whole block, which is then handed on.
     fn take(&mut self, front: &[u8]) -> Result<(), Failed>
         requires sound { self.old.faults ≡ 0 }
         requires fits { length self.old.block + length front.now ≤ 65536 }
-        ensures ok { OnOk result (HandsOn K.written K.faults K.push_gives self.old front.now self.new) }
-        ensures err { OnErr result (StopsAt K.written K.faults K.push_gives self.old front.now self.new) }
+        ensures ok { OnOk result (HandsOn K.written K.faults (Short K.push_gives) self.old front.now self.new) }
+        ensures err { OnErr result (StopsAt K.written K.faults (Short K.push_gives) self.old front.now self.new) }
     {
         self.block.extend_from_slice(front).unwrap();
         if self.block.len() < BLOCK {
@@ -69,7 +71,7 @@ impl<K: Sink> BlockSink<K> {
     /// Hands on what is held, unless a push failed before. Gives back the sink behind, and whether
     /// that push failed.
     pub fn close(self) -> (Result<(), Failed>, K)
-        ensures { Closes K.written K.faults K.push_gives self result.0 result.1 }
+        ensures { Closes K.written K.faults (Short K.push_gives) self result.0 result.1 }
     {
         let BlockSink {
             mut sink,
@@ -93,7 +95,7 @@ impl<K: Sink> Sink for BlockSink<K> {
 
     ghost faults = { λ s. s.faults };
 
-    ghost push_gives = { BlockGives K.written K.faults K.push_gives };
+    ghost push_gives = { BlockGives K.written K.faults (Short K.push_gives) };
 
     ghost appends = { λ old new piece r gives. gives.untold };
 

@@ -5,7 +5,6 @@ pub mod Gathering
 pub mod Pieces
 pub mod Underway
 pub mod Progress
-pub mod Endings
 pub mod Fulls
 pub mod Counted
 pub mod Listing
@@ -15,3 +14,8 @@ pub mod Filing
 pub mod Playing
 pub mod Told
 pub mod Truth
+pub mod Texts
+pub mod Sound
+pub mod Running
+pub mod Blocking
+pub mod Endings

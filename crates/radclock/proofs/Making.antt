@@ -20,9 +20,9 @@ use Rattle.replay_run.proofs.Steps.{steps_len}
 use Rattle.ideal_world.specs.declared.deviations.Deviation.{Deviation}
 use Rattle.clock_core.specs.Machines.{newest}
 use Rattle.report_text.specs.Text.{estimate_text, tick_text, end_text}
-use Rattle.radclock.specs.Replays.{IsReplayed}
+use Rattle.radclock.specs.Replays.{IsReplayed, run_options, run_stamps}
 use Rattle.radclock.specs.Reports.{of_nth}
-use Rattle.radclock.specs.MadeRuns.{closing_lines, run_counts, run_fulls, run_lines, run_options, run_stamps}
+use Rattle.radclock.specs.MadeRuns.{closing_lines, run_counts, run_fulls, run_lines}
 use Rattle.radclock.specs.declared.ran.Asked.{Asked}
 use Rattle.radclock.proofs.Fulls.{gathered-none}
 

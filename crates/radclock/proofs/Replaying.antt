@@ -22,7 +22,8 @@ use Rattle.replay_run.proofs.Journals.{journal-only, orders-of}
 use Rattle.replay_run.proofs.Opening.{first-passes, new-many, new-ready}
 use Rattle.replay_run.proofs.Targets.{plan-takes}
 use Rattle.radclock.specs.Reports.{log_lines}
-use Rattle.radclock.specs.Replays.{logs_of, entries_in, entries_of, steps_by, IsReplayed, IsPlanFor, IsReadyFor, ArePrinted}
+use Rattle.radclock.specs.Replays.{logs_of, steps_by, IsReplayed}
+use Rattle.radclock.specs.Plays.{entries_in, entries_of, IsPlanFor, IsReadyFor, ArePrinted}
 
 -- the lines of logs, as they are printed
 abbrev pub lines_of_logs : ℕ → List ReadLog → List (List ℕ)

@@ -18,13 +18,13 @@ use Rattle.clock_lines.specs.declared.readings.Kind.{Kind}
 use Rattle.clock_lines.specs.declared.readings.Kind.TheVariants as kind
 use Rattle.clock_logs.specs.Legal.{IsPlaced}
 use Rattle.clock_logs.specs.Logs.{IsLog}
-use Rattle.clock_words.specs.Lines.{command_in}
 use Rattle.clock_words.specs.declared.commands.Command.TheVariants as command
 use Rattle.clock_words.specs.declared.commands.Report.{Report}
 use Rattle.clock_words.specs.declared.commands.Report.TheVariants as asked
 use Rattle.tick_desk.specs.Shows.{PenShows}
 use Rattle.tick_desk.specs.declared.desk.Desk.{Desk}
 use Rattle.replay_run.specs.declared.plan.Options.{Options}
+use Rattle.ideal_world.specs.declared.deviations.Deviation.{Deviation}
 use Rattle.stamp_maker.specs.Worlds.{frequency, made_world}
 use Rattle.stamp_maker.proofs.Lying.{made-fits}
 use Rattle.stamp_maker.proofs.MadeLists.{made-lie}
@@ -34,10 +34,9 @@ use Rattle.world_laws.specs.Truths.{IsCovered, IsTrueTick, AreTrueTicks}
 use Rattle.world_laws.proofs.BoundsHold.{estimates-true}
 use Rattle.world_laws.proofs.PlansGoBy.{readings-true, plays-true}
 use Rattle.radclock.specs.Inputs.{IsRanged, accepted_among, freq_of_file, stamps_of_file}
-use Rattle.radclock.specs.MadeRuns.{run_options, run_stamps}
-use Rattle.radclock.specs.Replays.{IsReplayed}
-use Rattle.radclock.specs.Runs.{Leaves, WasDone, WasRead, RunHeadline, reported, filed, summarised}
-use Rattle.radclock.specs.Truth.{AreTrueReadings, IsTrueReplay, MadeTruth, TellsTrue, Truth}
+use Rattle.radclock.specs.Replays.{IsReplayed, run_options, run_stamps, IsRunOf, AreTrueReadings, IsTrueReplay, MadeTruth, TellsTrue}
+use Rattle.radclock.specs.Endings.{Leaves}
+use Rattle.radclock.specs.Runs.{Truth}
 use Rattle.radclock.specs.declared.ran.Asked.{Asked}
 use Rattle.radclock.specs.declared.inputs.StampLine.{StampLine}
 use Rattle.radclock.proofs.Gathering.{head-ranged, stamps-timed}
@@ -80,10 +79,10 @@ replay-true w options freq all pen low high fit accepted lie is =
     }
 
 -- that of made stamps, in each world that they lie in
-pub made-truth-of : (left left' written written' : Option (List ℕ)) (a : Asked) (pen : PenShows) → RunHeadline left left' written written' a pen → MadeTruth a pen
-made-truth-of left left' written written' a pen done =
+pub made-truth-of : (a : Asked) (told : Option Deviation) (pen : PenShows) → IsRunOf a told pen → MadeTruth a pen
+made-truth-of a told pen made =
     let holds : (w : World) → IsFit frequency w → All (LiesIn w) (run_stamps a) → IsTrueReplay w frequency (run_stamps a) pen =
-    λ w fit lie. replay-true w run_options frequency (run_stamps a) pen (omega arith) (omega arith) fit done.made.accepted lie done.made.replayed in
+    λ w fit lie. replay-true w run_options frequency (run_stamps a) pen (omega arith) (omega arith) fit made.accepted lie made.replayed in
     record { holds = holds; made = holds made_world made-fits (made-lie a.number a.count) }
 
 module _ (w : World) (freq : ℕ) (stamps : List StampLine) (ranged : IsRanged freq stamps) (fit : IsFit freq w) (lie : All (LiesIn w) (accepted_among freq [] stamps)) where
@@ -97,16 +96,6 @@ module _ (w : World) (freq : ℕ) (stamps : List StampLine) (ranged : IsRanged f
   tells-true (asked.Ticks ticks) old new leaves = plays-true freq ticks w (accepted_among freq [] stamps) ranged.low ranged.high fit accepted lie
   tells-true (asked.Replay ticks readers reads back crank) old new leaves = replay-true w _ freq (accepted_among freq [] stamps) new.pen ranged.low ranged.high fit accepted lie leaves
 
-pub truth-of : (left left' written written' : Option (List ℕ)) (desk desk' : Desk) (words : List (List ℕ)) (r : Report) → command_in words ≡ Some (command.Report r) → WasDone left left' written written' desk desk' words → Truth left left' written written' r desk'.pen
-truth-of left left' written written' desk desk' words r line (reported r' is was) =
-    let same : r' ≡ r = cc in
-    let done : WasRead left left' written written' desk desk' r = subst (WasRead left left' written written' desk desk') same was in
-    record {
-      text = done.text;
-      bytes = done.bytes;
-      ended = done.ended;
-      printed = done.wrote;
-      holds = λ w fit lie. tells-true w (freq_of_file done.text) (stamps_of_file done.text) (file-ranged done.text done.sound) fit lie r desk desk' done.leaves;
-    }
-truth-of left left' written written' desk desk' words r line (filed number count is same stays wrote) = absurd (cc)
-truth-of left left' written written' desk desk' words r line (summarised a is same told leaves wrote) = absurd (cc)
+-- what a report on a text in the grammar tells
+pub truth-of : (r : Report) (text : List ℕ) (desk desk' : Desk) → fault_of_file text ≡ None → Leaves r (freq_of_file text) (stamps_of_file text) desk desk' → Truth (Some (command.Report r)) text desk'.pen
+truth-of r text desk desk' sound leaves w fit lie = tells-true w (freq_of_file text) (stamps_of_file text) (file-ranged text sound) fit lie r desk desk' leaves

@@ -8,5 +8,8 @@ pub mod Gathered
 pub mod Journals
 pub mod Tallies
 pub mod Statuses
+pub mod Endings
 pub mod Runs
-pub mod Truth
+pub mod InBytes
+pub mod Plays
+pub mod Exits

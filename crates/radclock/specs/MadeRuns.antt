@@ -1,9 +1,6 @@
--- The command `run`: made stamps, replayed with set options, and a summary.
-use Rattle.std.specs.Prelude.{◌≡◌, ℕ, ◌-◌, true, false, List, [], ◌∷◌, ◌++◌, length, count_by, Option, None, Some}
-use Rattle.stamp_text.specs.Accepted.{AreAccepted}
-use Rattle.stamp_text.specs.declared.lines.Stamp.{Stamp}
-use Rattle.stamp_maker.specs.MadeStamps.{made_stamps}
-use Rattle.stamp_maker.specs.Worlds.{frequency, made_world}
+-- What the command `run` prints: a summary of made stamps and their replay.
+use Rattle.std.specs.Prelude.{ℕ, ◌-◌, List, [], ◌∷◌, ◌++◌, length, count_by, Option, None, Some}
+use Rattle.stamp_maker.specs.Worlds.{frequency}
 use Rattle.ff_hands.specs.declared.hands.Hands.{Hands}
 use Rattle.ff_estimator.specs.Folds.{fold_of}
 use Rattle.ff_estimator.specs.declared.fulls.Full.{Full}
@@ -12,15 +9,14 @@ use Rattle.clock_words.specs.Lines.{IsCommandInRange}
 use Rattle.clock_words.specs.declared.commands.Command.{Command}
 use Rattle.clock_words.specs.declared.commands.Command.TheVariants as command
 use Rattle.tick_desk.specs.Shows.{PenShows}
-use Rattle.replay_run.specs.declared.plan.Options.{Options}
-use Rattle.ideal_world.specs.Deviations.{IsFarthest}
 use Rattle.ideal_world.specs.declared.deviations.Deviation.{Deviation}
 use Rattle.report_text.specs.Text.{head_text, summary_text, ideal_text, estimate_text, tick_text, end_text}
 use Rattle.report_text.specs.declared.lines.EndCounts.{EndCounts}
 use Rattle.report_text.specs.declared.lines.ReportHead.{ReportHead}
 use Rattle.report_text.specs.declared.lines.ReportHead.TheVariants as head
 use Rattle.report_text.specs.declared.lines.Summary.{Summary}
-use Rattle.radclock.specs.Replays.{logs_of, entries_in, IsReplayed}
+use Rattle.radclock.specs.Replays.{logs_of, run_stamps}
+use Rattle.radclock.specs.Plays.{entries_in}
 use Rattle.radclock.specs.Reports.{of_nth}
 use Rattle.radclock.specs.declared.ran.Asked.{Asked}
 
@@ -32,31 +28,9 @@ run_by asked = command.Run asked.number asked.count asked.ideal
 abbrev pub IsAskedInRange : Asked → Type 0
 IsAskedInRange asked = IsCommandInRange (run_by asked)
 
--- how it is replayed
-abbrev pub run_options : Options
-run_options = record { ticks = 4; readers = 4; reads = 1000; back = false; crank = false }
-
--- its stamps
-abbrev pub run_stamps : Asked → List Stamp
-run_stamps asked = made_stamps asked.number asked.count
-
 -- all that a daemon says of them
 abbrev pub run_fulls : Asked → List Full
 run_fulls asked = fold_of frequency (run_stamps asked)
-
--- exactly where it is asked for, the first tick, from tick 2 on, that is farthest from the truth in the made world
-abbrev pub IsTold : Asked → List Hands → Option Deviation → Type 0
-IsTold asked ticks None = asked.ideal ≡ false
-IsTold asked ticks (Some farthest) = (asked.ideal ≡ true) × IsFarthest made_world ticks farthest
-
--- What it leaves on a desk, and what it tells of that
-pub record IsRunOf (asked : Asked) (told : Option Deviation) (pen : PenShows) : Type 0 where
-  -- all its stamps are accepted
-  pub accepted : AreAccepted frequency (run_stamps asked)
-  -- their replay is what the pen shows
-  pub replayed : IsReplayed run_options frequency (run_stamps asked) pen
-  -- where it is asked for, the tick that is farthest from the truth
-  pub farthest : IsTold asked pen.journal told
 
 -- what its summary counts, where each stamp is accepted
 abbrev pub summary_of : List Full → Summary

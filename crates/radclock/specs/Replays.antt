@@ -1,37 +1,41 @@
--- What a replay leaves on a desk.
-use Rattle.std.specs.Prelude.{◌≡◌, ℕ, ◌+◌, ◌*◌, ◌<◌, ◌≤◌, ◌^◌, false, List, [], ◌∷◌, length, map, slice_get, Some}
+-- What a replay and a run over made stamps leave on a desk, and what is true of it. In each log of a reader each entry has the
+-- opening value of its call: what the turn word held at the first load of it that the call made.
+use Rattle.std.specs.Prelude.{◌≡◌, ℕ, ⊤, true, false, List, length, map, slice_get, Option, None, Some}
 use Rattle.std.specs.List.{All}
+use Rattle.ff_grain.specs.Grains.{number_of}
+use Rattle.stamp_text.specs.Accepted.{AreAccepted}
 use Rattle.stamp_text.specs.declared.lines.Stamp.{Stamp}
-use Rattle.ff_hands.specs.Windups.{cold}
 use Rattle.ff_hands.specs.Journals.{order_of}
 use Rattle.ff_hands.specs.declared.hands.Hands.{Hands}
 use Rattle.ff_estimator.specs.Folds.{fold_of, estimates_of}
 use Rattle.clock_lines.specs.declared.readings.Entry.{Entry}
 use Rattle.clock_lines.specs.declared.readings.Entry.TheVariants as entry
 use Rattle.clock_lines.specs.declared.readings.Kind.{Kind}
+use Rattle.clock_lines.specs.declared.readings.Reading.{Reading}
 use Rattle.clock_logs.specs.Attempts.{AreAttempts, HasNoAhead}
 use Rattle.clock_logs.specs.Legal.{way_of}
 use Rattle.clock_logs.specs.Logs.{IsAgain, IsLog, AreSince, AreWithin, entry_of}
 use Rattle.clock_logs.specs.Rises.{Rises}
 use Rattle.clock_logs.specs.declared.noted.Kept.{Kept}
+use Rattle.clock_words.specs.declared.commands.Report.{Report}
+use Rattle.clock_words.specs.declared.commands.Report.TheVariants as asked
 use Rattle.tick_desk.specs.Shows.{PenShows}
-use Rattle.replay_run.specs.Fitting.{PlanFits}
 use Rattle.replay_run.specs.Journals.{journal_of, greatest, taken_in, IsJournalOf}
-use Rattle.replay_run.specs.Logs.{AreReady}
 use Rattle.replay_run.specs.Plans.{plan_of}
-use Rattle.replay_run.specs.declared.log.ReadLog.{ReadLog}
 use Rattle.replay_run.specs.declared.plan.Options.{Options}
-use Rattle.replay_run.specs.declared.plan.Plan.{Plan}
 use Rattle.replay_run.specs.declared.plan.PlanStep.{PlanStep}
+use Rattle.world_times.specs.Worlds.{IsFit, LiesIn}
+use Rattle.world_times.specs.declared.world.World.{World}
+use Rattle.world_laws.specs.Truths.{IsTrueEstimate, IsCovered, AreTrueTicks}
+use Rattle.stamp_maker.specs.MadeStamps.{made_stamps}
+use Rattle.stamp_maker.specs.Worlds.{frequency, made_world}
+use Rattle.ideal_world.specs.Deviations.{IsFarthest}
+use Rattle.ideal_world.specs.declared.deviations.Deviation.{Deviation}
+use Rattle.radclock.specs.declared.ran.Asked.{Asked}
 
 -- the entries of the passes that a pen took in
 abbrev pub logs_of : PenShows → List (List Entry)
 logs_of pen = map (λ (k : Kept). map entry_of k.entries) pen.kept
-
--- how many entries stand in logs
-abbrev pub entries_in : List (List Entry) → ℕ
-entries_in [] = 0
-entries_in (es ∷ logs) = length es + entries_in logs
 
 -- the steps of the plan of accepted stamps
 abbrev pub steps_by : ℕ → ℕ → List Stamp → List PlanStep
@@ -64,40 +68,57 @@ pub record IsReplayed (options : Options) (freq : ℕ) (all : List Stamp) (pen :
   pub again : EachKept pen (λ i k. HaveCauses pen.journal (map entry_of k.entries))
   -- it has as many entries as attempts were asked for, each of its kind
   pub attempts : EachKept pen (λ i k. AreAttempts freq options.back options.reads (map entry_of k.entries))
-  -- each entry is current at the first load of its call
-  pub current : EachKept pen (λ i k. AreSince k.entries)
-  -- no count in it is past the plan's greatest
+  -- each entry is current at its opening value, and these never fall
+  pub current : EachKept pen (λ i k. AreSince pen.journal k.entries)
+  -- the counter that its entries show is not past the plan's greatest count (a difference shows an interval)
   pub within : EachKept pen (λ i k. AreWithin (greatest (steps_by freq options.ticks all)) (map entry_of k.entries))
   -- and none was asked for that the counter had not reached
   pub reached : EachKept pen (λ i k. HasNoAhead (map entry_of k.entries))
   -- between resets uninterrupted readings never fall as the counts rise, whoever read them
   pub rise : Rises pen.journal (logs_of pen)
 
--- the plan of accepted stamps
-pub record IsPlanFor (freq : ℕ) (options : Options) (all : List Stamp) (p : Plan) : Type 0 where
-  pub freq_is : p.freq ≡ freq
-  pub options_is : p.options ≡ options
-  pub steps : p.steps.items ≡ steps_by freq options.ticks all
-  pub fits : PlanFits 0 0 p.steps.items
+-- each reading of the absolute clock or of an interval in a log is off by at most its bound, unless its tick is marked
+-- unsynchronised; nothing is said of the other clocks
+abbrev pub AreTrueReadings : World → List Hands → List Entry → Type 0
+AreTrueReadings w ticks es = (n : ℕ) (r : Reading) (h : Hands) → slice_get es n ≡ Some (entry.Read r) → slice_get ticks r.tick ≡ Some h → h.kstatus.unsync ≡ false → IsCovered w r.kind r.count (number_of r.time) r.bound
 
--- all that a play wants is there
-pub record IsReadyFor (freq : ℕ) (options : Options) (all : List Stamp) (plan : Plan) (logs : List ReadLog) (pen : PenShows) : Type 0 where
-  pub plan_is : IsPlanFor freq options all plan
-  pub logs_are : AreReady pen.table options.reads logs
-  pub many : length logs ≡ options.readers
-  pub spare : length plan.steps.items ≤ pen.spare
-  pub journal : pen.journal ≡ cold ∷ []
-  pub top : pen.top ≡ 0
-  pub still : pen.out ≡ false
-  pub kept : pen.kept ≡ []
+-- what a replay of these stamps tells is true: their estimates, the ticks, and such readings of each log
+pub record IsTrueReplay (w : World) (freq : ℕ) (all : List Stamp) (pen : PenShows) : Type 0 where
+  pub estimates : All (IsTrueEstimate w) (fold_of freq all)
+  pub ticks : AreTrueTicks w pen.journal
+  pub readings : EachKept pen (λ i k. AreTrueReadings w pen.journal (map entry_of k.entries))
 
--- the entries of logs
-abbrev pub entries_of : List ReadLog → List (List Entry)
-entries_of logs = map (λ (l : ReadLog). l.entries.items) logs
+-- what a report on these stamps tells is true; of a replay's readings it is told by what the pen shows
+abbrev pub TellsTrue : World → Report → ℕ → List Stamp → PenShows → Type 0
+TellsTrue w asked.Stamps freq all pen = ⊤
+TellsTrue w asked.Rtt freq all pen = ⊤
+TellsTrue w asked.Estimate freq all pen = All (IsTrueEstimate w) (fold_of freq all)
+TellsTrue w (asked.Ticks ticks) freq all pen = AreTrueTicks w (journal_of (steps_by freq ticks all))
+TellsTrue w (asked.Replay ticks readers reads back crank) freq all pen = IsTrueReplay w freq all pen
 
--- these logs have the entries that a pen keeps
-pub record ArePrinted (options : Options) (pen : PenShows) (logs : List ReadLog) : Type 0 where
-  pub same : entries_of logs ≡ logs_of pen
-  pub few : length logs < 2 ^ 32
-  pub short : All (λ (l : ReadLog). length l.entries.items < 2 ^ 32) logs
-  pub entries : options.readers * options.reads ≡ entries_in (entries_of logs)
+-- how a run over made stamps is replayed
+abbrev pub run_options : Options
+run_options = record { ticks = 4; readers = 4; reads = 1000; back = false; crank = false }
+
+-- its stamps
+abbrev pub run_stamps : Asked → List Stamp
+run_stamps asked = made_stamps asked.number asked.count
+
+-- exactly where it is asked for, the first tick, from tick 2 on, that is farthest from the truth in the made world
+abbrev pub IsTold : Asked → List Hands → Option Deviation → Type 0
+IsTold asked ticks None = asked.ideal ≡ false
+IsTold asked ticks (Some farthest) = (asked.ideal ≡ true) × IsFarthest made_world ticks farthest
+
+-- What a run over made stamps leaves on a desk, and what it tells of that
+pub record IsRunOf (asked : Asked) (told : Option Deviation) (pen : PenShows) : Type 0 where
+  -- all its stamps are accepted
+  pub accepted : AreAccepted frequency (run_stamps asked)
+  -- their replay is what the pen shows
+  pub replayed : IsReplayed run_options frequency (run_stamps asked) pen
+  -- where it is asked for, the tick that is farthest from the truth
+  pub farthest : IsTold asked pen.journal told
+
+-- what such a run tells is true in each world that fits the frequency and that its stamps lie in. The made world is one
+pub record MadeTruth (a : Asked) (pen : PenShows) : Type 0 where
+  pub holds : (w : World) → IsFit frequency w → All (LiesIn w) (run_stamps a) → IsTrueReplay w frequency (run_stamps a) pen
+  pub made : IsTrueReplay made_world frequency (run_stamps a) pen

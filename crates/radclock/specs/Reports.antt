@@ -19,7 +19,8 @@ use Rattle.report_text.specs.declared.lines.ReportHead.{ReportHead}
 use Rattle.report_text.specs.declared.lines.ReportHead.TheVariants as head
 use Rattle.radclock.specs.Inputs.{accepted_among}
 use Rattle.radclock.specs.Journals.{played_by}
-use Rattle.radclock.specs.Replays.{logs_of, entries_in}
+use Rattle.radclock.specs.Replays.{logs_of}
+use Rattle.radclock.specs.Plays.{entries_in}
 use Rattle.radclock.specs.declared.inputs.StampLine.{StampLine}
 use Rattle.clock_words.specs.declared.commands.Report.{Report}
 use Rattle.clock_words.specs.declared.commands.Report.TheVariants as asked

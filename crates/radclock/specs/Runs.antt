@@ -1,153 +1,208 @@
--- What a run reads and writes, and with which status it ends.
-use Rattle.std.specs.Prelude.{◌≡◌, ℕ, ◌-◌, ◌^◌, ◌<◌, ◌≤◌, ◌⊎◌, true, List, [], ◌∷◌, length, Option, None, Some, Result}
-use Rattle.std.specs.List.{concat}
-use Rattle.std.specs.Io.KnownBytes.{Appends, Consumes, IsAtEnd}
-use Rattle.rad_io.specs.Pushes.{Wrote, Broke}
+-- What a run reads and writes, with which status it ends, and what it leaves on the desk: all over one text.
+use Rattle.std.specs.Prelude.{◌≡◌, ℕ, ◌<◌, ◌⊎◌, ⊤, Bool, List, [], ◌∷◌, ◌++◌, length, Option, None, Some, Result, Ok, Err}
+use Rattle.std.specs.List.{All, concat}
+use Rattle.rad_io.specs.Blocks.{Short}
+use Rattle.rad_io.specs.Pulls.{Pulled, Pulls}
+use Rattle.rad_io.specs.Pushes.{Pushes}
 use Rattle.rad_io.specs.declared.Failed.{Failed}
-use Rattle.stamp_text.specs.Grammar.{fault_of_file}
+use Rattle.stamp_text.specs.declared.lines.Stamp.{Stamp}
+use Rattle.ff_hands.specs.Windups.{cold}
 use Rattle.stamp_maker.specs.MadeStamps.{made_list}
 use Rattle.report_text.specs.Text.{fault_text}
+use Rattle.report_text.specs.MadeFiles.{file_lines_of}
 use Rattle.report_text.specs.declared.lines.FaultText.TheVariants as fault
-use Rattle.clock_words.specs.Lines.{command_in}
+use Rattle.clock_words.specs.declared.commands.Command.{Command}
 use Rattle.clock_words.specs.declared.commands.Command.TheVariants as command
-use Rattle.clock_words.specs.declared.commands.Report.{Report}
-use Rattle.clock_words.specs.declared.commands.Report.TheVariants as asked
+use Rattle.clock_words.specs.declared.commands.Report.TheVariants as report
 use Rattle.tick_desk.specs.Shows.{PenShows}
 use Rattle.tick_desk.specs.declared.desk.Desk.{Desk}
-use Rattle.replay_run.specs.declared.plan.Options.{Options}
+use Rattle.world_times.specs.Worlds.{IsFit, LiesIn}
+use Rattle.world_times.specs.declared.world.World.{World}
 use Rattle.ideal_world.specs.declared.deviations.Deviation.{Deviation}
-use Rattle.radclock.specs.Inputs.{most_bytes, most_stamps, most_accepted, accepted_among, takes_few, stop_of_file, freq_of_file, stamps_of_file}
-use Rattle.report_text.specs.MadeFiles.{file_lines_of}
-use Rattle.radclock.specs.Readings.{ReachesEnd, Stops}
-use Rattle.radclock.specs.MadeRuns.{run_by, run_text, IsRunOf}
-use Rattle.radclock.specs.Replays.{IsReplayed}
+use Rattle.radclock.specs.Inputs.{accepted_among, takes_few, freq_of_file, stamps_of_file, stop_so_far, stop_of_file}
+use Rattle.radclock.specs.MadeRuns.{run_text}
+use Rattle.radclock.specs.Replays.{IsReplayed, IsRunOf, MadeTruth, TellsTrue}
 use Rattle.radclock.specs.Reports.{report_of}
-use Rattle.radclock.specs.Statuses.{status_of, fault_of}
-use Rattle.radclock.specs.declared.inputs.StampLine.{StampLine}
+use Rattle.radclock.specs.Statuses.{status_by}
 use Rattle.radclock.specs.declared.inputs.Stop.{Stop}
 use Rattle.radclock.specs.declared.inputs.Stop.TheVariants as stop
-use Rattle.radclock.specs.declared.ran.Asked.{Asked}
 use Rattle.radclock.specs.declared.status.Status.{Status}
 use Rattle.radclock.specs.declared.status.Status.TheVariants as status
 
--- what a report leaves of the desk: only a replay changes it
-abbrev pub Leaves : Report → ℕ → List StampLine → Desk → Desk → Type 0
-Leaves asked.Stamps freq stamps old new = new ≡ old
-Leaves asked.Rtt freq stamps old new = new ≡ old
-Leaves asked.Estimate freq stamps old new = new ≡ old
-Leaves (asked.Ticks ticks) freq stamps old new = new ≡ old
-Leaves (asked.Replay ticks readers reads back crank) freq stamps old new = IsReplayed (record { ticks = ticks; readers = readers; reads = reads; back = back; crank = crank }) freq (accepted_among freq [] stamps) new.pen
+-- what one pull may give: from this source and room, this answer, room and source
+abbrev pub PullGives : Type 0 → Type 1
+PullGives S = S → List ℕ → Result ℕ Failed → List ℕ → S → Type 0
 
--- what a stop leaves of it. Memory may be wanting where passes were made already, but no tick
-abbrev pub LeavesAt : Stop → Desk → Desk → Type 0
-LeavesAt stop.Memory old new = new.pen.journal ≡ old.pen.journal
-LeavesAt (stop.Read taken) old new = new ≡ old
-LeavesAt (stop.Fault f) old new = new ≡ old
-LeavesAt (stop.Large l) old new = new ≡ old
+-- Why nothing is pulled behind a pull with this answer, where the text goes as far as its bytes
+pub data StopsBehind (limited : Bool) (text : List ℕ) : Result ℕ Failed → Option Stop → Type 0 where
+  -- it failed, and took nothing
+  broke_off : StopsBehind limited text (Err (record {})) (Some (stop.Read (length text)))
+  -- it found the end: nothing stops the whole input, or this does
+  at_end : StopsBehind limited text (Ok 0) (stop_of_file limited text)
+  -- this stops the input within its bytes
+  in_piece : (n : ℕ) (s : Stop) → 0 < n → stop_so_far limited text ≡ Some s → StopsBehind limited text (Ok n) (Some s)
+  -- memory was wanting for what the text gives
+  out_of_memory : (n : ℕ) → StopsBehind limited text (Ok n) (Some stop.Memory)
 
--- which status a run is to end with, which lines it is to write, and what it leaves of the desk, by its
--- words and what it read. Only a report reads.
-pub data Comes {S : Type 0} (left : S → Option (List ℕ)) (faults : S → ℕ) (pull : S → List ℕ → Result ℕ Failed → List ℕ → S → Type 0) (words : List (List ℕ)) (old new : S) (desk desk' : Desk) : Status → List (List ℕ) → Type 0 where
-  no_line : command_in words ≡ None → new ≡ old → desk' ≡ desk → Comes left faults pull words old new desk desk' status.Usage (fault_text fault.Usage ∷ [])
-  no_memory : new ≡ old → desk' ≡ desk → Comes left faults pull words old new desk desk' status.NoMemory (fault_text fault.Memory ∷ [])
-  made : (number count : ℕ) → command_in words ≡ Some (command.Make number count) → new ≡ old → desk' ≡ desk → Comes left faults pull words old new desk desk' status.Done (file_lines_of (made_list number count))
-  ran : (a : Asked) → command_in words ≡ Some (run_by a) → new ≡ old → (told : Option Deviation) → IsRunOf a told desk'.pen → Comes left faults pull words old new desk desk' status.Done (run_text a told desk'.pen)
-  ran_short : (a : Asked) → command_in words ≡ Some (run_by a) → new ≡ old → LeavesAt stop.Memory desk desk' → Comes left faults pull words old new desk desk' status.NoMemory (fault_text fault.Memory ∷ [])
-  stopped : (r : Report) → command_in words ≡ Some (command.Report r) → (stop : Stop) → Stops (takes_few r) left faults pull old stop new → LeavesAt stop desk desk' → Comes left faults pull words old new desk desk' (status_of stop) (fault_text (fault_of stop) ∷ [])
-  read : (r : Report) → command_in words ≡ Some (command.Report r) → (text : List ℕ) → ReachesEnd (takes_few r) left faults pull old text new → stop_of_file (takes_few r) text ≡ None → Leaves r (freq_of_file text) (stamps_of_file text) desk desk' → Comes left faults pull words old new desk desk' status.Done (report_of r (freq_of_file text) (stamps_of_file text) desk'.pen)
+-- A text is read by single pulls, each into a room of 4,096 bytes, to its end (`None`) or to what stops it
+pub record ReadsTo {S : Type 0} (pull : PullGives S) (limited : Bool) (old : S) (text : List ℕ) (s : Option Stop) (new : S) : Type 0 where
+  -- the pulls but the last one, each of which gave bytes, and nothing in these stops the input
+  pub front : List ℕ
+  pub mid : S
+  pub pulls : Pulls pull 4096 old front mid
+  pub sound : stop_so_far limited front ≡ None
+  -- the last one
+  pub answer : Result ℕ Failed
+  pub piece : List ℕ
+  pub last : Pulled pull 4096 mid answer piece new
+  pub sized : length last.filled ≡ 4096
+  pub whole : text ≡ front ++ piece
+  pub stops : StopsBehind limited text answer s
 
--- the lines that were to be written are, and the run ends as it was to, or a push failed, which
--- was the last one
-abbrev pub EndsWith : {K : Type 0} (written : K → Option (List ℕ)) (faults : K → ℕ) (push : K → List ℕ → Result (Unit {0}) Failed → K → Type 0) → K → List (List ℕ) → Status → Status → K → Type 0
-EndsWith written faults push old lines due result new = ((result ≡ due) × Wrote written faults push old lines new) ⊎ ((result ≡ status.WriteFault) × Broke written faults push old lines new)
+-- what one push may give: from this sink and piece, this answer and sink
+abbrev pub PushGives : Type 0 → Type 1
+PushGives K = K → List ℕ → Result (Unit {0}) Failed → K → Type 0
 
--- with the report that is asked for a run ends as it is to, or for want of memory
-abbrev pub Finishes : {K : Type 0} (written : K → Option (List ℕ)) (faults : K → ℕ) (push : K → List ℕ → Result (Unit {0}) Failed → K → Type 0) → Report → ℕ → List StampLine → K → Desk → Status → K → Desk → Type 0
-Finishes written faults push r freq stamps old desk result new desk' =
-    (Leaves r freq stamps desk desk' × EndsWith written faults push old (report_of r freq stamps desk'.pen) status.Done result new)
-    ⊎ (LeavesAt stop.Memory desk desk' × EndsWith written faults push old (fault_text fault.Memory ∷ []) status.NoMemory result new)
+-- how lines may go out: from this sink, these lines, whether all went out, and this sink
+abbrev pub Writing : Type 0 → Type 1
+Writing K = K → List (List ℕ) → Result (Unit {0}) Failed → K → Type 0
 
--- and so it does with that on a run over made stamps
-abbrev pub Summarises : {K : Type 0} (written : K → Option (List ℕ)) (faults : K → ℕ) (push : K → List ℕ → Result (Unit {0}) Failed → K → Type 0) → Asked → K → Desk → Status → K → Desk → Type 0
-Summarises written faults push a old desk result new desk' =
-    ((told : Option Deviation) × IsRunOf a told desk'.pen × EndsWith written faults push old (run_text a told desk'.pen) status.Done result new)
-    ⊎ (LeavesAt stop.Memory desk desk' × EndsWith written faults push old (fault_text fault.Memory ∷ []) status.NoMemory result new)
+-- the push of one of the pieces failed, and was the last one
+pub record Breaks {K : Type 0} (push : PushGives K) (old : K) (pieces : List (List ℕ)) (new : K) : Type 0 where
+  pub front : List (List ℕ)
+  pub failed : List ℕ
+  pub rest : List (List ℕ)
+  pub cut : pieces ≡ front ++ failed ∷ rest
+  pub mid : K
+  pub pushes : Pushes push old front mid
+  pub last : push mid failed (Err (record {})) new
 
--- the whole run
-pub record Ends {S K : Type 0} (left : S → Option (List ℕ)) (pull_faults : S → ℕ) (pull : S → List ℕ → Result ℕ Failed → List ℕ → S → Type 0) (written : K → Option (List ℕ)) (push_faults : K → ℕ) (push : K → List ℕ → Result (Unit {0}) Failed → K → Type 0) (words : List (List ℕ)) (source source' : S) (sink sink' : K) (desk desk' : Desk) (result : Status) : Type 0 where
-  pub due : Status
-  pub lines : List (List ℕ)
-  pub comes : Comes left pull_faults pull words source source' desk desk' due lines
-  pub ends : EndsWith written push_faults push sink lines due result sink'
+-- line by line, each by one push
+abbrev pub ByLines : {K : Type 0} → PushGives K → Writing K
+ByLines push old lines (Ok o) new = Pushes push old lines new
+ByLines push old lines (Err e) new = Breaks push old lines new
 
--- the whole run whose lines are pushed in blocks
-pub record EndsInBlocks {S K : Type 0} (left : S → Option (List ℕ)) (pull_faults : S → ℕ) (pull : S → List ℕ → Result ℕ Failed → List ℕ → S → Type 0) (written : K → Option (List ℕ)) (push_faults : K → ℕ) (push : K → List ℕ → Result (Unit {0}) Failed → K → Type 0) (words : List (List ℕ)) (source source' : S) (sink sink' : K) (desk desk' : Desk) (result : Status) : Type 0 where
-  pub due : Status
-  pub lines : List (List ℕ)
-  pub comes : Comes left pull_faults pull words source source' desk desk' due lines
+-- in blocks of at most 65,536 bytes, each by one push
+pub record ByBlocks {K : Type 0} (push : PushGives K) (old : K) (lines : List (List ℕ)) (answer : Result (Unit {0}) Failed) (new : K) : Type 0 where
   pub blocks : List (List ℕ)
   pub bytes : concat blocks ≡ concat lines
-  pub ends : EndsWith written push_faults push sink blocks due result sink'
+  pub pushed : ByLines (Short push) old blocks answer new
 
--- the input was read to its end, its text is in the grammar and within the limits, and this report
--- on it was appended
-pub record WasRead (left left' written written' : Option (List ℕ)) (desk desk' : Desk) (r : Report) : Type 0 where
+-- the stamps of a text that are accepted
+abbrev pub accepted_of_file : List ℕ → List Stamp
+accepted_of_file text = accepted_among (freq_of_file text) [] (stamps_of_file text)
+
+-- nothing is pulled
+pub record IsUnread {S : Type 0} (old : S) (text : List ℕ) (new : S) : Type 0 where
+  pub none : text ≡ []
+  pub same : new ≡ old
+
+-- What is read: only a report reads, where there is memory for its words
+abbrev pub IsRead : {S : Type 0} → PullGives S → Option Command → S → List ℕ → Option Stop → S → Type 0
+IsRead pull None old text s new = IsUnread old text new × (s ≡ None)
+IsRead pull (Some (command.Report r)) old text s new = ReadsTo pull (takes_few r) old text s new ⊎ (IsUnread old text new × (s ≡ Some stop.Memory))
+IsRead pull (Some (command.Make number count)) old text s new = IsUnread old text new × (s ≡ None)
+IsRead pull (Some (command.Run number count ideal)) old text s new = IsUnread old text new × (s ≡ None)
+
+-- the status by the words, and by what stopped the input
+abbrev pub status_due : Option Command → Option Stop → Status
+status_due None s = status.Usage
+status_due (Some (command.Report r)) s = status_by s
+status_due (Some (command.Make number count)) s = status.Done
+status_due (Some (command.Run number count ideal)) s = status.Done
+
+-- Which status is due: that one, but where memory is wanting behind the reading
+abbrev pub IsDue : Option Command → Option Stop → Status → Type 0
+IsDue asked s due = (due ≡ status_due asked s) ⊎ ((due ≡ status.NoMemory) × (s ≡ None))
+
+-- and with which a run ends, by whether all its lines went out
+abbrev pub ends_with : Status → Result (Unit {0}) Failed → Status
+ends_with due (Ok o) = due
+ends_with due (Err e) = status.WriteFault
+
+-- the lines of a done run: a report on the text, a made file, or the report on a run over made stamps
+abbrev pub done_lines : Option Command → List ℕ → Option Deviation → PenShows → List (List ℕ)
+done_lines None text told pen = []
+done_lines (Some (command.Report r)) text told pen = report_of r (freq_of_file text) (stamps_of_file text) pen
+done_lines (Some (command.Make number count)) text told pen = file_lines_of (made_list number count)
+done_lines (Some (command.Run number count ideal)) text told pen = run_text (record { number = number; count = count; ideal = ideal }) told pen
+
+-- Which lines are due: those, or the one line of a fault
+abbrev pub lines_due : Option Command → List ℕ → Option Deviation → PenShows → Status → List (List ℕ)
+lines_due asked text told pen status.Done = done_lines asked text told pen
+lines_due asked text told pen (status.BadInput f) = fault_text (fault.Input f) ∷ []
+lines_due asked text told pen status.Usage = fault_text fault.Usage ∷ []
+lines_due asked text told pen status.ReadFault = fault_text (fault.Read (length text)) ∷ []
+lines_due asked text told pen status.WriteFault = []
+lines_due asked text told pen status.NoMemory = fault_text fault.Memory ∷ []
+lines_due asked text told pen (status.TooLarge l) = fault_text (fault.Large l) ∷ []
+
+-- The headline. Of a replay: what the pen shows is the replay of the text's accepted stamps, each point of which has its
+-- name in `IsReplayed`. Of a run over made stamps: it is that of these, and what is told of the truth is so (`IsRunOf`)
+abbrev pub Headline : Option Command → List ℕ → Option Deviation → PenShows → Type 0
+Headline None text told pen = ⊤
+Headline (Some (command.Report report.Stamps)) text told pen = ⊤
+Headline (Some (command.Report report.Rtt)) text told pen = ⊤
+Headline (Some (command.Report report.Estimate)) text told pen = ⊤
+Headline (Some (command.Report (report.Ticks ticks))) text told pen = ⊤
+Headline (Some (command.Report (report.Replay ticks readers reads back crank))) text told pen = IsReplayed (record { ticks = ticks; readers = readers; reads = reads; back = back; crank = crank }) (freq_of_file text) (accepted_of_file text) pen
+Headline (Some (command.Make number count)) text told pen = ⊤
+Headline (Some (command.Run number count ideal)) text told pen = IsRunOf (record { number = number; count = count; ideal = ideal }) told pen
+
+-- The truth: what was told is true in each world that fits the frequency and in which the accepted stamps lie
+abbrev pub Truth : Option Command → List ℕ → PenShows → Type 0
+Truth None text pen = ⊤
+Truth (Some (command.Report r)) text pen = (w : World) → IsFit (freq_of_file text) w → All (LiesIn w) (accepted_of_file text) → TellsTrue w r (freq_of_file text) (accepted_of_file text) pen
+Truth (Some (command.Make number count)) text pen = ⊤
+Truth (Some (command.Run number count ideal)) text pen = MadeTruth (record { number = number; count = count; ideal = ideal }) pen
+
+-- what the desk holds where a command is done: nothing was done with it, but that the headline says what a replay and a
+-- run over made stamps leave
+abbrev pub HoldsDone : Option Command → Desk → Desk → Type 0
+HoldsDone None old new = new ≡ old
+HoldsDone (Some (command.Report report.Stamps)) old new = new ≡ old
+HoldsDone (Some (command.Report report.Rtt)) old new = new ≡ old
+HoldsDone (Some (command.Report report.Estimate)) old new = new ≡ old
+HoldsDone (Some (command.Report (report.Ticks ticks))) old new = new ≡ old
+HoldsDone (Some (command.Report (report.Replay ticks readers reads back crank))) old new = ⊤
+HoldsDone (Some (command.Make number count)) old new = new ≡ old
+HoldsDone (Some (command.Run number count ideal)) old new = ⊤
+
+-- and where memory was wanting: passes may have been made for a report or a run over made stamps, but no tick
+abbrev pub HoldsShort : Option Command → Desk → Desk → Type 0
+HoldsShort None old new = new ≡ old
+HoldsShort (Some (command.Report r)) old new = new.pen.journal ≡ cold ∷ []
+HoldsShort (Some (command.Make number count)) old new = new ≡ old
+HoldsShort (Some (command.Run number count ideal)) old new = new.pen.journal ≡ cold ∷ []
+
+-- What the desk holds
+abbrev pub Holds : Option Command → Status → Desk → Desk → Type 0
+Holds asked status.Done old new = HoldsDone asked old new
+Holds asked (status.BadInput f) old new = new ≡ old
+Holds asked status.Usage old new = new ≡ old
+Holds asked status.ReadFault old new = new ≡ old
+Holds asked status.WriteFault old new = new ≡ old
+Holds asked status.NoMemory old new = HoldsShort asked old new
+Holds asked (status.TooLarge l) old new = new ≡ old
+
+-- A run by this command, over one text
+pub record Ran {S K : Type 0} (pull : PullGives S) (writes : Writing K) (asked : Option Command) (source source' : S) (sink sink' : K) (desk desk' : Desk) (result : Status) : Type 0 where
+  -- the bytes that the pulls gave, and what stopped the input
   pub text : List ℕ
-  pub bytes : Consumes left left' text
-  pub ended : IsAtEnd left'
-  pub sound : fault_of_file text ≡ None
-  pub few_bytes : length text ≤ most_bytes
-  pub few_stamps : length (stamps_of_file text) ≤ most_stamps
-  pub few_accepted : takes_few r ≡ true → length (accepted_among (freq_of_file text) [] (stamps_of_file text)) ≤ most_accepted
-  pub leaves : Leaves r (freq_of_file text) (stamps_of_file text) desk desk'
-  pub wrote : Appends written written' (concat (report_of r (freq_of_file text) (stamps_of_file text) desk'.pen))
-
--- what was read and appended: a report on the input, or a made file or the report on a run over made
--- stamps, and then nothing was read
-pub data WasDone (left left' written written' : Option (List ℕ)) (desk desk' : Desk) (words : List (List ℕ)) : Type 0 where
-  reported : (r : Report) → command_in words ≡ Some (command.Report r) → WasRead left left' written written' desk desk' r → WasDone left left' written written' desk desk' words
-  filed : (number count : ℕ) → command_in words ≡ Some (command.Make number count) → left' ≡ left → desk' ≡ desk → Appends written written' (concat (file_lines_of (made_list number count))) → WasDone left left' written written' desk desk' words
-  summarised : (a : Asked) → command_in words ≡ Some (run_by a) → left' ≡ left → (told : Option Deviation) → IsRunOf a told desk'.pen → Appends written written' (concat (run_text a told desk'.pen)) → WasDone left left' written written' desk desk' words
-
--- the report on a replay by these options
-abbrev pub replay_by : Options → Report
-replay_by o = asked.Replay o.ticks o.readers o.reads o.back o.crank
-
--- What a replay printed and left
-pub record Headline (left left' written written' : Option (List ℕ)) (options : Options) (pen : PenShows) : Type 0 where
-  -- the input was read to its end, and its text is in the grammar
-  pub text : List ℕ
-  pub bytes : Consumes left left' text
-  pub ended : IsAtEnd left'
-  pub sound : fault_of_file text ≡ None
-  -- what was appended is the report on it, with the pen's own journal, and the logs that it took in
-  pub printed : Appends written written' (concat (report_of (replay_by options) (freq_of_file text) (stamps_of_file text) pen))
-  -- these are what a replay of the accepted stamps makes
-  pub replayed : IsReplayed options (freq_of_file text) (accepted_among (freq_of_file text) [] (stamps_of_file text)) pen
-
--- What a run over made stamps printed and left
-pub record RunHeadline (left left' written written' : Option (List ℕ)) (a : Asked) (pen : PenShows) : Type 0 where
-  -- nothing was read
-  pub unread : left' ≡ left
-  -- what was appended is the summary of the estimates of the made stamps, what is told of the truth, the last
-  -- estimate, and the last tick of the pen's own journal, with how many there are of each and of the entries
-  -- that it took in
+  pub stopped : Option Stop
+  -- the status that is due, whether all lines went out, and what is told of the truth
+  pub due : Status
+  pub answer : Result (Unit {0}) Failed
   pub told : Option Deviation
-  pub printed : Appends written written' (concat (run_text a told pen))
-  -- the made stamps are accepted, these are what a replay of them makes, and that is what is told of the truth
-  pub made : IsRunOf a told pen
-
--- with these statuses no tick was made
-abbrev pub MakesNone : Status → Type 0
-MakesNone status.Done = ⊥
-MakesNone status.WriteFault = ⊥
-MakesNone (status.BadInput f) = Unit {0}
-MakesNone status.Usage = Unit {0}
-MakesNone status.ReadFault = Unit {0}
-MakesNone status.NoMemory = Unit {0}
-MakesNone (status.TooLarge l) = Unit {0}
-
--- the count of faults did not rise, and does not stand at its last value
-pub record WasFree (before now : ℕ) : Type 0 where
-  pub same : now ≡ before
-  pub below : before < 2 ^ 64 - 1
+  -- which status comes, and when
+  pub status_is : IsDue asked stopped due
+  pub ended : result ≡ ends_with due answer
+  -- what was read and written
+  pub read : IsRead pull asked source text stopped source'
+  pub wrote : writes sink (lines_due asked text told desk'.pen due) answer sink'
+  -- the headline, of `replay` and of `run`
+  pub headline : due ≡ status.Done → Headline asked text told desk'.pen
+  -- the truth
+  pub truth : due ≡ status.Done → Truth asked text desk'.pen
+  -- what the desk holds
+  pub holds : Holds asked due desk desk'

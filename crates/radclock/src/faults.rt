@@ -1,7 +1,7 @@
 // The end of a run that writes no report.
 ghost use Rattle.std.specs.Prelude.{[], ◌∷◌};
 ghost use Rattle.report_text.specs.Text.{fault_text};
-ghost use Rattle.radclock.specs.Runs.{EndsWith};
+ghost use Rattle.radclock.specs.Endings.{EndsWith};
 
 use crate::status::Status;
 use rad_io::{Failed, Sink};

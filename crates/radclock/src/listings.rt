@@ -1,7 +1,7 @@
 // The lines of a journal and of logs.
 ghost use Rattle.std.specs.Prelude.{◌≡◌, ◌<◌, ◌^◌, All, length};
 ghost use Rattle.rad_io.specs.Pushes.{Writes};
-ghost use Rattle.radclock.specs.Replays.{entries_of};
+ghost use Rattle.radclock.specs.Plays.{entries_of};
 ghost use Rattle.radclock.specs.Reports.{tick_lines, entry_lines, log_lines};
 
 use clock_lines::Entry;

@@ -6,9 +6,10 @@ ghost use Rattle.ff_estimator.specs.Folds.{AreOf};
 ghost use Rattle.ff_hands.specs.Journals.{IsJournal};
 ghost use Rattle.clock_core.specs.Machines.{newest};
 ghost use Rattle.tick_desk.specs.Shows.{IsFresh};
-ghost use Rattle.radclock.specs.MadeRuns.{IsAskedInRange, run_options, run_stamps, run_fulls, IsTold, run_head, summary_of, run_counts, opening_lines, told_lines, closing_lines, run_lines, run_text};
-ghost use Rattle.radclock.specs.Replays.{IsReadyFor, entries_in, logs_of};
-ghost use Rattle.radclock.specs.Runs.{EndsWith, Summarises};
+ghost use Rattle.radclock.specs.MadeRuns.{IsAskedInRange, run_fulls, run_head, summary_of, run_counts, opening_lines, told_lines, closing_lines, run_lines, run_text};
+ghost use Rattle.radclock.specs.Replays.{logs_of, run_options, run_stamps, IsTold};
+ghost use Rattle.radclock.specs.Plays.{IsReadyFor, entries_in};
+ghost use Rattle.radclock.specs.Endings.{EndsWith, Summarises};
 
 use crate::faults::refuse;
 use crate::gather::gather_made;

@@ -6,9 +6,9 @@ ghost use Rattle.tick_desk.specs.Shows.{IsFresh};
 ghost use Rattle.radclock.specs.Inputs.{IsRanged, accepted_among};
 ghost use Rattle.replay_run.specs.Plans.{AreOptionsInRange};
 ghost use Rattle.replay_run.specs.declared.plan.Options.{Options};
-ghost use Rattle.radclock.specs.Replays.{IsPlanFor, IsReadyFor, ArePrinted};
+ghost use Rattle.radclock.specs.Plays.{IsPlanFor, IsReadyFor, ArePrinted};
 ghost use Rattle.radclock.specs.Reports.{report_of};
-ghost use Rattle.radclock.specs.Runs.{EndsWith, Finishes, replay_by};
+ghost use Rattle.radclock.specs.Endings.{EndsWith, Finishes, replay_by};
 
 use crate::estimates::Estimates;
 use crate::faults::refuse;

@@ -5,7 +5,7 @@ ghost use Rattle.stamp_text.specs.Accepted.{IsInRange, accept_of, accepted_with,
 ghost use Rattle.stamp_text.specs.Format.{least_freq, greatest_freq};
 ghost use Rattle.stamp_text.specs.declared.lines.Stamp.{Stamp};
 ghost use Rattle.radclock.specs.Inputs.{IsRanged};
-ghost use Rattle.radclock.specs.Replays.{entries_in, entries_of};
+ghost use Rattle.radclock.specs.Plays.{entries_in, entries_of};
 ghost use Rattle.radclock.specs.Reports.{outcomes};
 ghost use Rattle.radclock.specs.Tellings.{report, replay_told, told_of, told_text, IsNext};
 ghost use Rattle.radclock.specs.Tallies.{StandsAt, Counts, CountsAll};

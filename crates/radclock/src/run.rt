@@ -1,21 +1,14 @@
 // The top call.
-ghost use Rattle.std.specs.Prelude.{◌≡◌, ◌⊎◌, ◌≤◌, ◌<◌, ◌^◌, ℕ, List, [], ◌∷◌, map, Some, None};
-ghost use Rattle.ff_hands.specs.Windups.{cold};
+ghost use Rattle.std.specs.Prelude.{◌≡◌, ◌≤◌, ◌<◌, ◌^◌, [], map};
 ghost use Rattle.clock_words.specs.Lines.{IsReportInRange, command_in};
-ghost use Rattle.clock_words.specs.declared.commands.Command.TheVariants as command;
-ghost use Rattle.clock_words.specs.declared.commands.Report.{Report};
-ghost use Rattle.replay_run.specs.declared.plan.Options.{Options};
 ghost use Rattle.tick_desk.specs.Shows.{IsFresh};
-ghost use Rattle.radclock.specs.Inputs.{IsRanged, stop_of_file, takes_few};
-ghost use Rattle.radclock.specs.MadeRuns.{run_by};
-ghost use Rattle.radclock.specs.declared.ran.Asked.{Asked};
+ghost use Rattle.radclock.specs.Inputs.{IsRanged};
 ghost use Rattle.stamp_maker.specs.MadeStamps.{made_list};
 ghost use Rattle.report_text.specs.MadeFiles.{file_lines_of};
 ghost use Rattle.radclock.specs.Reports.{outcomes, ticks_text};
 ghost use Rattle.radclock.specs.Tellings.{report};
-ghost use Rattle.radclock.specs.Runs.{Ends, EndsWith, Finishes, Headline, MakesNone, RunHeadline, WasDone, WasFree, replay_by};
-ghost use Rattle.radclock.specs.Statuses.{status_by};
-ghost use Rattle.radclock.specs.Truth.{MadeTruth, Truth};
+ghost use Rattle.radclock.specs.Endings.{EndsWith, Finishes};
+ghost use Rattle.radclock.specs.Runs.{ByLines, Ran};
 
 use crate::bases::Bases;
 use crate::estimates::Estimates;
@@ -151,8 +144,36 @@ fn make<K: Sink>(sink: &mut K, number: u64, count: u32) -> Status
     }
 }
 
-// Reads the words, and the input where they ask for a report, and then writes.
-fn answer<'w, R: Threads + Sync, S: Source, K: Sink, G: Gate>(
+/// Does the whole work of the program: reads the words after the program's name, then, where they
+/// ask for a report, the whole input in pieces of at most 4,096 bytes, and then writes the report or the
+/// made file that the words ask for, or the one line of a fault.
+///
+/// Its clause is one record, `Ran`, over one text: that which single pulls gave, to its end or to what
+/// stopped it. Its parts say which status comes and when, what was read and written, the headline, the
+/// truth, and what the desk holds. They speak of single pulls and pushes alone, so they hold of standard
+/// streams as of bytes in memory. What follows in bytes and in counts of faults, where the source and the
+/// sink tell these, is said by `lines_tell`.
+///
+/// The headline is of a replay and of a run over made stamps that is done. In every order in which the
+/// steps of the driver, the readers and the crank may come:
+///
+/// - the journal is a legal one with the plan's orders; with a crank each of its counts is from the
+///   plan's to the plan's greatest, and without one it is the plan's own journal;
+/// - the estimates that its ticks took are those of the accepted stamps, each once and in order;
+/// - there is one log for each reader, with as many entries as attempts were asked for;
+/// - each log is legal over the journal: each reading is the value by one tick, at a count not past
+///   the next tick;
+/// - a call has to be made again only where a windup stood open or came between, or took the slot of
+///   the tick that the call was at;
+/// - each entry is current at its opening value, what the turn word held at the first load of its call;
+/// - the counter that its entries show is not past the plan's greatest count, and none is told to be
+///   ahead of it;
+/// - between resets uninterrupted readings never fall as the counts rise, whoever read them.
+///
+/// The truth: in each world in which the counter runs at one rate and that the accepted stamps lie in,
+/// estimates are off by at most what was told of their error, and so are readings of the absolute clock
+/// and of intervals by ticks that are not marked unsynchronised. Of the other clocks nothing is said.
+pub fn run<'w, R: Threads + Sync, S: Source, K: Sink, G: Gate>(
     rt: &R,
     alloc: Global,
     words: &'w [&'w str],
@@ -161,10 +182,11 @@ fn answer<'w, R: Threads + Sync, S: Source, K: Sink, G: Gate>(
     desk: &mut Desk,
     gate: &G,
 ) -> Status
+    // Nothing was done with the desk.
     requires fresh { IsFresh desk.old.pen desk.old.passes.items }
-    ensures { Ends S.left S.faults S.pull_gives K.written K.faults K.push_gives
-        (map (λ w. w.now) words.entry.now) source.old source.new sink.old sink.new
-        desk.old desk.new result }
+
+    ensures { Ran S.pull_gives (ByLines K.push_gives) (command_in (map (λ w. w.now) words.entry.now))
+        source.old source.new sink.old sink.new desk.old desk.new result }
 {
     let asked = match command_of(alloc, words) {
         Ok(Some(Command::Report(asked))) => asked,
@@ -196,109 +218,4 @@ fn answer<'w, R: Threads + Sync, S: Source, K: Sink, G: Gate>(
         }
         Err(stop) => refuse(sink, fault_of(stop), status_of(stop)),
     }
-}
-
-/// Does the whole work of the program: reads the words after the program's name, then, where they
-/// ask for a report, the whole input in pieces of 4,096 bytes, and then writes the report or the
-/// made file that the words ask for, or the one line of a fault. All memory is taken before the
-/// first push, and before the first tick.
-///
-/// A replay is played on the desk, on which nothing was done yet, and so is a run over made stamps.
-/// Nothing else changes it. In every order in which the steps of the driver, the readers and the crank
-/// may come, a replay that is done has printed the desk's own journal and the readers' logs
-/// (`headline`):
-///
-/// - the journal is a legal one with the plan's orders; with a crank each of its counts is from the
-///   plan's to the plan's greatest, and without one it is the plan's own journal;
-/// - the estimates that its ticks took are those of the accepted stamps, each once and in order;
-/// - there is one log for each reader, with as many entries as attempts were asked for;
-/// - each log is legal over the journal: each reading is the value by one tick, at a count not past
-///   the next tick;
-/// - a call has to be made again only where a windup stood open or came between, or took the slot of
-///   the tick that the call was at (`again`);
-/// - each entry is current at the first load of its call, and shows no count past the greatest;
-/// - between resets uninterrupted readings never fall as the counts rise, whoever read them.
-///
-/// A run over made stamps pulls nothing. All its stamps are accepted, and with four plain steps between
-/// two estimates and four readers of 1,000 attempts each it leaves on the desk what such a replay
-/// leaves. It has printed what does not depend on that order (`summary`): how many estimates have each
-/// flag, where it is asked for the tick that is farthest from the truth, the last estimate, the last tick
-/// of the desk's journal, and how many there are of each.
-///
-/// In each world in which the counter runs at one rate and that the accepted stamps lie in, estimates are
-/// off by at most what was told of their error, and so are readings of the absolute clock and of intervals
-/// by ticks that are not marked unsynchronised (`truth`, `made_truth`). Of the other clocks nothing is said.
-pub fn run<'w, R: Threads + Sync, S: Source, K: Sink, G: Gate>(
-    rt: &R,
-    alloc: Global,
-    words: &'w [&'w str],
-    source: &mut S,
-    sink: &mut K,
-    desk: &mut Desk,
-    gate: &G,
-) -> Status
-    // Nothing was done with the desk.
-    requires fresh { IsFresh desk.old.pen desk.old.passes.items }
-
-    // Which status comes, when it comes, what was then pulled and pushed, and what the desk holds. The
-    // words come first: where they are no line, nothing is read (`no_line` of `Comes`). Then the input, as
-    // its bytes come: a fault, a limit, a pull that failed or want of memory is what stops it first
-    // (`stopped`). Writing comes last: where a push failed, it was the last one (`EndsWith`).
-    ensures ends { Ends S.left S.faults S.pull_gives K.written K.faults K.push_gives
-        (map (λ w. w.now) words.entry.now) source.old source.new sink.old sink.new
-        desk.old desk.new result }
-
-    // What was appended, in bytes, and what the desk holds.
-    ensures done { result ≡ Status.Done →
-        WasDone (S.left source.old) (S.left source.new) (K.written sink.old) (K.written sink.new)
-        desk.old desk.new (map (λ w. w.now) words.entry.now) }
-
-    // What a replay printed and left: each point of it has its name there.
-    ensures headline { (options : Options) → result ≡ Status.Done →
-        command_in (map (λ w. w.now) words.entry.now) ≡ Some (command.Report (replay_by options)) →
-        Headline (S.left source.old) (S.left source.new) (K.written sink.old) (K.written sink.new)
-        options desk.new.pen }
-
-    // What a run over made stamps printed and left.
-    ensures summary { (a : Asked) → result ≡ Status.Done →
-        command_in (map (λ w. w.now) words.entry.now) ≡ Some (run_by a) →
-        RunHeadline (S.left source.old) (S.left source.new) (K.written sink.old) (K.written sink.new)
-        a desk.new.pen }
-
-    // In each world that the accepted stamps lie in, what a report told is true: its estimates, and by
-    // ticks that are not marked unsynchronised what it told of the absolute clock and of intervals, are off
-    // by at most their bounds.
-    ensures truth { (asked : Report) → result ≡ Status.Done →
-        command_in (map (λ w. w.now) words.entry.now) ≡ Some (command.Report asked) →
-        Truth (S.left source.old) (S.left source.new) (K.written sink.old) (K.written sink.new)
-        asked desk.new.pen }
-
-    // And so is what a run over made stamps has left, in each world that these lie in, as they do in the
-    // made world.
-    ensures made_truth { (a : Asked) → result ≡ Status.Done →
-        command_in (map (λ w. w.now) words.entry.now) ≡ Some (run_by a) →
-        MadeTruth a desk.new.pen }
-
-    // No tick was made where the status is that of a fault, but for a failing push.
-    ensures none { MakesNone result → desk.new.pen.journal ≡ cold ∷ [] }
-
-    // The words decide alone where they are no line or ask for made stamps, and else the input, where
-    // nothing else interferes and memory is there.
-    ensures usage { command_in (map (λ w. w.now) words.entry.now) ≡ None →
-        (result ≡ Status.Usage) ⊎ ((result ≡ Status.WriteFault) ⊎ (result ≡ Status.NoMemory)) }
-    ensures complete { (asked : Report) (text : List ℕ) →
-        command_in (map (λ w. w.now) words.entry.now) ≡ Some (command.Report asked) →
-        S.left source.old ≡ Some text → WasFree (S.faults source.old) (S.faults source.new) →
-        WasFree (K.faults sink.old) (K.faults sink.new) →
-        (result ≡ status_by (stop_of_file (takes_few asked) text)) ⊎ (result ≡ Status.NoMemory) }
-    ensures made { (number count : ℕ) →
-        command_in (map (λ w. w.now) words.entry.now) ≡ Some (command.Make number count) →
-        WasFree (K.faults sink.old) (K.faults sink.new) →
-        (result ≡ Status.Done) ⊎ (result ≡ Status.NoMemory) }
-    ensures ran { (a : Asked) →
-        command_in (map (λ w. w.now) words.entry.now) ≡ Some (run_by a) →
-        WasFree (K.faults sink.old) (K.faults sink.new) →
-        (result ≡ Status.Done) ⊎ (result ≡ Status.NoMemory) }
-{
-    answer(rt, alloc, words, source, sink, desk, gate)
 }

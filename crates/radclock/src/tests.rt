@@ -4,6 +4,7 @@ mod judge;
 mod large;
 mod limits;
 mod logs;
+mod meetings;
 mod ran;
 mod replays;
 mod rows;
@@ -14,11 +15,11 @@ use crate::tests::logs::{Attempt, Came, report_of};
 use crate::tests::rows::{
     HEAD, INPUT, LONG_LINES, NEVER, OTHER_WORDS, PULLS, PUSHES, READING, ROOM, RUNS,
 };
-use crate::{Status, run, run_in_blocks};
+use crate::{Status, program, run, run_in_blocks};
 use rad_io::{Gate, MemSink, MemSource, OpenGate, StdSink, StdSource};
 use std::alloc::Global;
 use std::io::Write;
-use std::process::Abort;
+use std::process::{Abort, ExitCode};
 use std::sync::atomic::{AtomicU64, Ordering};
 use std::test::Fail;
 use std::thread::Threads;
@@ -270,8 +271,8 @@ fn no_write_follows_one_that_failed(rt: HostRuntime) -> Result<(), Fail> {
             sink,
             &mut desk,
             &OpenGate,
-        )?;
-        assert_eq!(rt; status.code(), code, "at {line}: {left}");
+        );
+        assert_eq!(rt; status?.code(), code, "at {line}: {left}");
         assert_eq!(rt; writer.writes, writes, "at {line}: {left}");
     }
     Ok(())
@@ -286,6 +287,15 @@ const PATIENCE: u64 = 100_000_000;
 struct Meeting {
     reader: AtomicU64,
     driver: AtomicU64,
+}
+
+impl Meeting {
+    fn new() -> Meeting {
+        Meeting {
+            reader: AtomicU64::new(0),
+            driver: AtomicU64::new(0),
+        }
+    }
 }
 
 fn meet(own: &AtomicU64, other: &AtomicU64) {
@@ -322,11 +332,8 @@ fn is_met(attempt: &Attempt) -> bool {
 }
 
 #[test]
-fn a_reader_and_the_driver_of_a_run_meet(rt: HostRuntime) -> Result<(), Fail> {
-    let gate = Meeting {
-        reader: AtomicU64::new(0),
-        driver: AtomicU64::new(0),
-    };
+fn a_reader_and_the_driver_of_a_replay_meet(rt: HostRuntime) -> Result<(), Fail> {
+    let gate = Meeting::new();
     let words = "replay --ticks 4 --readers 2 --reads 4";
     let (status, told) = played_past(&rt, rt.alloc(), words, INPUT, OUTSIDE, &gate)?;
     assert_eq!(rt; status.code(), 0);
@@ -336,5 +343,26 @@ fn a_reader_and_the_driver_of_a_run_meet(rt: HostRuntime) -> Result<(), Fail> {
     let report = report_of(rt.alloc(), &told, usize::MAX)?;
     assert_eq!(rt; first_wrong(&report), None, "at {told}");
     assert!(rt; report.attempts.iter().all(is_met), "at {told}");
+    Ok(())
+}
+
+#[test]
+fn a_reader_and_the_driver_of_a_run_over_made_stamps_meet(rt: HostRuntime) -> Result<(), Fail> {
+    let gate = Meeting::new();
+    let (status, _) = played_past(&rt, rt.alloc(), "run 7 3", "", OUTSIDE, &gate)?;
+    assert_eq!(rt; status.code(), 0);
+    assert_eq!(rt; gate.reader.load(Ordering::SeqCst), 2);
+    assert_eq!(rt; gate.driver.load(Ordering::SeqCst), 2);
+    Ok(())
+}
+
+#[test]
+fn words_that_are_not_text_are_no_line(rt: HostRuntime) -> Result<(), Fail> {
+    let mut source = MemSource::new(Vec::new(rt.alloc()), 1, Vec::new(rt.alloc()));
+    let sink = MemSink::new(rt.alloc(), ROOM, Vec::new(rt.alloc()))?;
+    let args = Err(io::Error::from(io::ErrorKind::InvalidData));
+    let (code, sink) = program(&rt, rt.alloc(), args, &mut source, sink);
+    assert!(rt; code == ExitCode::from(2));
+    assert!(rt; sink.written() == b"fault usage\n".as_slice());
     Ok(())
 }

@@ -81,7 +81,7 @@ drives-next steps old mid new k d within drives step =
     let h = wind_of (newest mid.journal) step.count s.order in
     let rest = drop (k + 1) steps in
     let both = rest-fits steps old mid k d within drives in
-    let now : PenShows = record mid { journal = mid.journal ++ h ∷ []; counters = step.counters; top = s.to; spare = mid.spare - 1 } in
+    let now : PenShows = record mid { journal = mid.journal ++ h ∷ []; counters = step.counters; top = s.to; met = step.met; spare = mid.spare - 1 } in
     let on = fits-on (newest mid.journal) step.count s.order step.fits in
     let update : (newest (mid.journal ++ h ∷ [])).est.update_ffcount ≡ update_after (newest mid.journal).est.update_ffcount s.order = ap (λ (h : Hands). h.est.update_ffcount) (newest-push mid.journal h) ∙ update-wound (newest mid.journal) step.count s.order in
     let all : greatest (drop k steps) ≡ max s.to (greatest rest) = ap greatest (drop_more steps k d within) in

@@ -59,7 +59,7 @@ rested-alone steps beside old lent driven new still alone same d is =
     } in
     subst (IsRested steps beside old) (sym is) made
 
-rested-beside : (steps : List PlanStep) (beside : Bool) (old lent driven new : PenShows) (crank turned : CrankSees) → beside ≡ true → Lends old lent crank → turned ≡ record crank { top = max crank.top (greatest steps) } → IsDriven steps lent driven → new ≡ record driven { top = max driven.top turned.top; out = false } → IsMost new.top new.journal → IsRested steps beside old new
+rested-beside : (steps : List PlanStep) (beside : Bool) (old lent driven new : PenShows) (crank turned : CrankSees) → beside ≡ true → Lends old lent crank → turned ≡ record crank { top = max crank.top (greatest steps); met = turned.met } → IsDriven steps lent driven → new ≡ record driven { top = max driven.top turned.top; out = false } → IsMost new.top new.journal → IsRested steps beside old new
 rested-beside steps beside old lent driven new crank turned wanted l raised d is most =
     let out : lent.out ≡ true = ap (λ (p : PenShows). p.out) l.after in
     let each : AreTicksOf beside steps driven.journal = subst (λ (b : Bool). AreTicksOf b steps driven.journal) (out ∙ sym wanted) d.each in

@@ -17,7 +17,8 @@ pub record StepsBy (s : PlanStep) (old new : PenShows) : Type 0 where
   pub still : old.out ≡ false → count ≡ s.to
   pub fits : fits (newest old.journal) count s.order ≡ true
   pub counters : List ℕ
-  pub after : new ≡ record old { journal = old.journal ++ wind_of (newest old.journal) count s.order ∷ []; counters = counters; top = s.to; spare = old.spare - 1 }
+  pub met : List ℕ
+  pub after : new ≡ record old { journal = old.journal ++ wind_of (newest old.journal) count s.order ∷ []; counters = counters; top = s.to; met = met; spare = old.spare - 1 }
 
 -- a pen was wound by each step
 pub record IsDriven (steps : List PlanStep) (old new : PenShows) : Type 0 where
@@ -35,4 +36,4 @@ pub record IsDriven (steps : List PlanStep) (old new : PenShows) : Type 0 where
 abbrev pub Turned : List PlanStep → Option CrankSees → Option CrankSees → Type 0
 Turned steps None after = after ≡ None
 Turned steps (Some c) None = ⊥
-Turned steps (Some c) (Some d) = d ≡ record c { top = max c.top (greatest steps) }
+Turned steps (Some c) (Some d) = d ≡ record c { top = max c.top (greatest steps); met = d.met }

@@ -63,7 +63,7 @@ pub record TakesAll (before after : List ReadLog) (old new : PenShows) : Type 0 
 -- shows the counter past this count
 pub record IsLogOf (freq : ℕ) (options : Options) (most : ℕ) (ticks : List Hands) (es : List Noted) : Type 0 where
   pub legal : IsLog ticks (map entry_of es)
-  pub since : AreSince es
+  pub since : AreSince ticks es
   pub attempts : AreAttempts freq options.back options.reads (map entry_of es)
   pub within : AreWithin most (map entry_of es)
 

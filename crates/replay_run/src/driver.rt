@@ -41,7 +41,8 @@ pub(crate) fn drive<G: Gate>(gate: &G, pen: &mut Pen, steps: &[PlanStep])
 // Raises the counter to each step's count, in their order.
 fn raise_all(crank: &mut Crank, steps: &[PlanStep])
     requires { PlanFits 0 0 steps.now }
-    ensures { crank.new ≡ record crank.old { top = max crank.old.top (greatest steps.now) } }
+    ensures { crank.new ≡
+        record crank.old { top = max crank.old.top (greatest steps.now); met = crank.new.met } }
 {
     for s in steps {
         crank.raise(s.to);

@@ -11,10 +11,12 @@ use std::mem;
 use tick_desk::{Answer, Converted, Pass};
 
 // The kind of an attempt.
+#[inline(always)]
 fn kind_at(back: bool, k: u32) -> Kind
     ensures { result ≡ kind_at back k }
 {
-    match k % if back { 6 } else { 5 } {
+    let turn = if back { k % 6 } else { k % 5 };
+    match turn {
         0 => Kind::Abs,
         1 => Kind::Mono,
         2 => Kind::Uptime,
@@ -25,6 +27,7 @@ fn kind_at(back: bool, k: u32) -> Kind
 }
 
 // The count of the latest reading of the absolute clock, with one entry more.
+#[inline(always)]
 fn latest_with(latest: u64, e: &Entry) -> u64
     ensures { result ≡ latest_with latest e.now }
 {
@@ -38,6 +41,7 @@ fn latest_with(latest: u64, e: &Entry) -> u64
 }
 
 // The entry of a read.
+#[inline(always)]
 fn entry_by(kind: Kind, answer: Answer) -> Entry
     ensures { result ≡ entry_by kind answer }
 {
@@ -48,6 +52,7 @@ fn entry_by(kind: Kind, answer: Answer) -> Entry
 }
 
 // The entry of a conversion of a past count.
+#[inline(always)]
 fn entry_from(count: u64, converted: Converted) -> Entry
     ensures { result ≡ entry_from count converted }
 {
@@ -63,17 +68,20 @@ fn entry_from(count: u64, converted: Converted) -> Entry
     }
 }
 
-// Makes one attempt.
+// Makes one attempt. Each kind has a copy of the code of its own.
+#[inline(always)]
 fn attempt(pass: &mut Pass, kind: Kind, freq: u64, latest: u64) -> Entry
     requires freq { freq < 2 ^ 62 }
     requires latest { latest < 2 ^ 62 }
     ensures { Adds pass.old pass.new (ask_for freq latest kind) result }
 {
     match kind {
-        Kind::Abs | Kind::Mono | Kind::Uptime | Kind::Utc | Kind::Fast => {
-            entry_by(kind, pass.read(kind))
-        }
-        Kind::Diff => entry_by(kind, pass.diff(freq)),
+        Kind::Abs => entry_by(Kind::Abs, pass.read(Kind::Abs)),
+        Kind::Mono => entry_by(Kind::Mono, pass.read(Kind::Mono)),
+        Kind::Uptime => entry_by(Kind::Uptime, pass.read(Kind::Uptime)),
+        Kind::Utc => entry_by(Kind::Utc, pass.read(Kind::Utc)),
+        Kind::Fast => entry_by(Kind::Fast, pass.read(Kind::Fast)),
+        Kind::Diff => entry_by(Kind::Diff, pass.diff(freq)),
         Kind::Back => entry_from(latest, pass.convert(latest)),
     }
 }

@@ -1,5 +1,5 @@
 // The lines of what readers came to, each made from its end.
-ghost use Rattle.std.specs.Prelude.{◌≡◌, ◌≤◌, ◌+◌, ◌++◌, length};
+ghost use Rattle.std.specs.Prelude.{◌≡◌, ◌≤◌, ◌+◌, [], ◌++◌, length};
 ghost use Rattle.report_text.specs.Text.{attempt_part, reading_part, entry_text};
 
 use crate::line::LineText;
@@ -36,65 +36,62 @@ fn add_reading_part(line: &mut LineText, r: &Reading)
 }
 
 #[tactic(auto, unfolding(crate::specs::Text::entry_text))]
-fn reading(reader: u32, k: u32, r: &Reading) -> LineText
-    ensures { result ≡ entry_text reader k (Entry.Read r.now) }
+fn add_whole_reading(line: &mut LineText, reader: u32, k: u32, r: &Reading)
+    requires { line.old ≡ [] }
+    ensures { line.new ≡ entry_text reader k (Entry.Read r.now) }
 {
-    let mut line = LineText::new();
     line.word(b"\n");
-    add_reading_part(&mut line, r);
-    add_attempt_part(&mut line, reader, k);
+    add_reading_part(line, r);
+    add_attempt_part(line, reader, k);
     line.word(b"read ");
-    line
 }
 
 #[tactic(auto, unfolding(crate::specs::Text::entry_text))]
-fn again(reader: u32, k: u32, kind: Kind, first: u64, last: u64) -> LineText
-    ensures { result ≡ entry_text reader k (Entry.Again kind first last) }
+fn add_again(line: &mut LineText, reader: u32, k: u32, kind: Kind, first: u64, last: u64)
+    requires { line.old ≡ [] }
+    ensures { line.new ≡ entry_text reader k (Entry.Again kind first last) }
 {
-    let mut line = LineText::new();
     line.word(b"\n");
     line.column(last);
     line.column(first);
     line.word(kind_name(kind));
-    add_attempt_part(&mut line, reader, k);
+    add_attempt_part(line, reader, k);
     line.word(b"again ");
-    line
 }
 
 #[tactic(auto, unfolding(crate::specs::Text::entry_text))]
-fn too_old(reader: u32, k: u32, count: u64, oldest: u64) -> LineText
-    ensures { result ≡ entry_text reader k (Entry.TooOld count oldest) }
+fn add_too_old(line: &mut LineText, reader: u32, k: u32, count: u64, oldest: u64)
+    requires { line.old ≡ [] }
+    ensures { line.new ≡ entry_text reader k (Entry.TooOld count oldest) }
 {
-    let mut line = LineText::new();
     line.word(b"\n");
     line.column(oldest);
     line.number(count);
-    add_attempt_part(&mut line, reader, k);
+    add_attempt_part(line, reader, k);
     line.word(b"old ");
-    line
 }
 
 #[tactic(auto, unfolding(crate::specs::Text::entry_text))]
-fn ahead(reader: u32, k: u32, count: u64, at: u64) -> LineText
-    ensures { result ≡ entry_text reader k (Entry.Ahead count at) }
+fn add_ahead(line: &mut LineText, reader: u32, k: u32, count: u64, at: u64)
+    requires { line.old ≡ [] }
+    ensures { line.new ≡ entry_text reader k (Entry.Ahead count at) }
 {
-    let mut line = LineText::new();
     line.word(b"\n");
     line.column(at);
     line.number(count);
-    add_attempt_part(&mut line, reader, k);
+    add_attempt_part(line, reader, k);
     line.word(b"ahead ");
-    line
 }
 
-fn entry(reader: u32, k: u32, e: &Entry) -> LineText
-    ensures { result ≡ entry_text reader k e.now }
+fn add_entry(line: &mut LineText, reader: u32, k: u32, e: &Entry)
+    requires { line.old ≡ [] }
+    ensures { line.new ≡ entry_text reader k e.now }
 {
     match e {
-        Entry::Read(r) => reading(reader, k, r),
-        Entry::Again { kind, first, last } => again(reader, k, *kind, *first, *last),
-        Entry::TooOld { count, oldest } => too_old(reader, k, *count, *oldest),
-        Entry::Ahead { count, at } => ahead(reader, k, *count, *at),
+        Entry::Read(r) => add_whole_reading(line, reader, k, r),
+        Entry::Again { kind, first, last } => add_again(line, reader, k, *kind, *first, *last),
+        Entry::TooOld { count, oldest } => add_too_old(line, reader, k, *count, *oldest),
+        Entry::Ahead { count, at } => add_ahead(line, reader, k, *count, *at),
     }
 }
 
@@ -103,5 +100,7 @@ fn entry(reader: u32, k: u32, e: &Entry) -> LineText
 pub fn entry_line<K: Sink>(sink: &mut K, reader: u32, k: u32, e: &Entry) -> Result<(), Failed>
     ensures { K.push_gives sink.old (entry_text reader k e.now) result sink.new }
 {
-    sink.push(entry(reader, k, e).bytes())
+    let mut line = LineText::new();
+    add_entry(&mut line, reader, k, e);
+    sink.push(line.bytes())
 }

@@ -39,14 +39,15 @@ record Same (p q : PenView) (more : List ℕ) : Type 0 where
   journal : q.journal ≡ p.journal
   winding : q.winding ≡ p.winding
   top : q.top ≡ p.top
+  met : q.met ≡ p.met
   out : q.out ≡ p.out
   made : q.made ≡ p.made
   kept : q.kept ≡ p.kept
   counters : q.counters ≡ p.counters ++ more
 
 counted-same : (b : Bool) (c : ℕ) (p : PenView) → Same p (counted_if b c p) (tested_if b c)
-counted-same true c p = record { journal = refl; winding = refl; top = refl; out = refl; made = refl; kept = refl; counters = refl }
-counted-same false c p = record { journal = refl; winding = refl; top = refl; out = refl; made = refl; kept = refl; counters = sym (append-nil p.counters) }
+counted-same true c p = record { journal = refl; winding = refl; top = refl; met = refl; out = refl; made = refl; kept = refl; counters = refl }
+counted-same false c p = record { journal = refl; winding = refl; top = refl; met = refl; out = refl; made = refl; kept = refl; counters = sym (append-nil p.counters) }
 
 -- no value is above the front of a list where none is above the whole
 front-below : (c : ℕ) (xs ys : List ℕ) → AllBelow c (xs ++ ys) → AllBelow c xs
@@ -67,7 +68,7 @@ taken_parts false c s r e = (refl, taken_ahead c r e)
 
 -- the pen as contracts see it
 abbrev pub show : TableId → List Hands → ℕ → ℕ → Bool → ℕ → PenView → PenShows
-show table ticks spare top out made p = record { table = table; journal = ticks; spare = spare; counters = p.counters; top = top; out = out; made = made; kept = p.kept }
+show table ticks spare top out made p = record { table = table; journal = ticks; spare = spare; counters = p.counters; top = top; met = p.met; out = out; made = made; kept = p.kept }
 
 module _ (p0 p1 : PenView) (ticks : List Hands) (top : ℕ) (out : Bool) (made : ℕ) (holds : PenHolds p0 ticks top out made) (last : Hands) (o : Order) (last-is : last ≡ newest ticks) where
   abbrev old : TableId → ℕ → PenShows
@@ -107,7 +108,7 @@ module _ (p0 p1 : PenView) (ticks : List Hands) (top : ℕ) (out : Bool) (made :
     count_is = λ n e. absurd (err_ok n why e);
     later = λ n e. absurd (err_ok n why e);
     answer = ap (answer_by (length ticks)) (t.answer ∙ ap (λ (h : Hands). refusal h t.counter o) last-is);
-    after = λ i. record { table = same i; journal = ticks; spare = spare; counters = tested-counters (Some why) t i; top = top; out = out; made = made; kept = (tested-same (Some why) t).kept i };
+    after = λ i. record { table = same i; journal = ticks; spare = spare; counters = tested-counters (Some why) t i; top = top; met = (tested-same (Some why) t).met i; out = out; made = made; kept = (tested-same (Some why) t).kept i };
   }
     where
       err_ok : (n : ℕ) (why : Refuse) → Err why ≡ Ok n → ⊥
@@ -192,6 +193,7 @@ module _ (p0 p1 : PenView) (ticks : List Hands) (top : ℕ) (out : Bool) (made :
                 spare = less i;
                 counters = (published.counters ∙ (ap (λ (v : PenView). v.counters) v2 ∙ (ap (λ l. l ++ count ∷ []) (tested-counters None t) ∙ append_assoc p0.counters (tested_if (tests_counter (newest ticks) o) t.counter) (count ∷ [])))) i;
                 top = top;
+                met = (published.met ∙ (ap (λ (v : PenView). v.met) v2 ∙ s.met)) i;
                 out = out;
                 made = made;
                 kept = (published.kept ∙ (ap (λ (v : PenView). v.kept) v2 ∙ s.kept)) i;

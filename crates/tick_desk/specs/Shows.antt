@@ -21,6 +21,8 @@ pub record PenShows : Type 0 where
   pub counters : List ℕ
   -- the greatest count that it, or a crank that it took back, raised the counter to
   pub top : ℕ
+  -- the counter as each of the pen's own raises left it
+  pub met : List ℕ
   -- a crank is out
   pub out : Bool
   -- how many passes were ever made
@@ -44,9 +46,9 @@ pub record PenHolds (p : PenView) (ticks : List Hands) (top : ℕ) (out : Bool) 
   pub made_is : p.made ≡ made
   pub given : (i : ℕ) (k : Kept) → get_elem? p.kept i ≡ some k → k.number < p.made
 
--- the pen of a clock that was never set, with this room and these loads
-abbrev pub new_pen : TableId → ℕ → List ℕ → PenShows
-new_pen table spare counters = record { table = table; journal = cold ∷ []; spare = spare; counters = counters; top = 0; out = false; made = 0; kept = [] }
+-- the pen of a clock that was never set, with this room, these loads and what its raises answered
+abbrev pub new_pen : TableId → ℕ → List ℕ → List ℕ → PenShows
+new_pen table spare counters met = record { table = table; journal = cold ∷ []; spare = spare; counters = counters; top = 0; met = met; out = false; made = 0; kept = [] }
 
 -- so many new passes, with the numbers from one on, which have seen so many ticks and made no load
 abbrev pub new_passes : TableId → ℕ → ℕ → ℕ → List PassSees

@@ -41,6 +41,7 @@ pub record Publishes (before after : PenView) (h : Hands) : Type 0 where
   pub closed : after.winding ≡ false
   pub counters : after.counters ≡ before.counters
   pub top : after.top ≡ before.top
+  pub met : after.met ≡ before.met
   pub out : after.out ≡ before.out
   pub made : after.made ≡ before.made
   pub kept : after.kept ≡ before.kept
@@ -82,6 +83,7 @@ pub record Lends (old new : PenShows) (crank : CrankSees) : Type 0 where
   pub home : old.out ≡ false
   pub table : crank.table ≡ old.table
   pub top : crank.top ≡ 0
+  pub none : crank.met ≡ []
   pub after : new ≡ record old { out = true }
 
 -- One windup. The order is refused, or not, at the counter that is loaded for it, and the tick's

@@ -32,6 +32,15 @@ pub enum Converted {
     Again { first: u64, last: u64 },
 }
 
+// The slot of the tick before one in this slot.
+#[inline(always)]
+fn slot_before(slot: u64) -> u64
+    requires { slot < 10 }
+    ensures { result ≡ (slot + 9) % 10 }
+{
+    if slot == 0 { 9 } else { slot - 1 }
+}
+
 impl Pass {
     /// The uninterrupted clock at a past count below 2^62, by the tick that was current then, the
     /// newest whose count is below it, or tick 0.
@@ -41,20 +50,24 @@ impl Pass {
     /// turn word has to be even and the same again. Else the ticks before it are looked at one by
     /// one, down to the ninth before it, which needs neither, also while a windup stands open. A
     /// mark that is not the tick's own is `Again`.
+    #[inline(always)]
     pub fn convert(&mut self, count: u64) -> Converted
         requires { count < 2 ^ 62 }
         ensures { Adds self.old self.new (ask_back count) (entry_from count result) }
     {
-        let first = self.seat.open_call(Ask {
+        let ask = Ask {
             kind: Kind::Back,
             given: count,
-        });
+        };
+        let first = self.seat.open_call(self.share.words(), ask);
         let newest = first / 2;
         if let Some(answer) = self.look_newest(first, count) {
             return answer;
         }
+        let mut slot = newest % 10;
         for down in 1..10 {
-            if let Some(answer) = self.look_older(first, newest - down, count) {
+            slot = slot_before(slot);
+            if let Some(answer) = self.look_older(first, newest - down, slot, count) {
                 return answer;
             }
         }
@@ -62,6 +75,7 @@ impl Pass {
     }
 
     // Looks at the newest tick. With no answer the call is at the tick before.
+    #[inline(always)]
     fn look_newest(&mut self, first: u64, count: u64) -> Option<Converted>
         requires most { count < 2 ^ 62 }
         requires few { first < 2 ^ 63 }
@@ -75,7 +89,7 @@ impl Pass {
         ensures more { IsNone result → first / 2 ≢ 0 }
     {
         let tick = first / 2;
-        let seen = look_at(&mut self.seat, tick);
+        let seen = look_at(self.share.words(), &mut self.seat, tick, tick % 10);
         if seen.mark != 2 * tick + 2 {
             return Some(Converted::Again {
                 first: 2 * tick + 2,
@@ -96,6 +110,7 @@ impl Pass {
     }
 
     // The count is past the newest tick's.
+    #[inline(always)]
     fn past_newest(&mut self, first: u64, hands: &Hands, count: u64) -> Converted
         requires most { count < 2 ^ 62 }
         requires calling { self.old.view.calling ≡ true }
@@ -109,11 +124,12 @@ impl Pass {
         ensures answers { Answers self.old.view self.new.view (entry_from count result) }
         ensures by { IsEntryBy (hands_of self.new.view) (entry_from count result) }
     {
-        let counter = self.seat.load_counter();
+        let words = self.share.words();
+        let counter = self.seat.load_counter(words);
         if counter < count {
             return Converted::Ahead { count: counter };
         }
-        let last = self.seat.load_turn();
+        let last = self.seat.load_turn(words);
         if last != first {
             return Converted::Again { first, last };
         }
@@ -121,7 +137,9 @@ impl Pass {
     }
 
     // Looks at an older tick. With no answer the call is at the tick before.
-    fn look_older(&mut self, first: u64, tick: u64, count: u64) -> Option<Converted>
+    #[inline(always)]
+    fn look_older(&mut self, first: u64, tick: u64, slot: u64, count: u64) -> Option<Converted>
+        requires slot { slot ≡ tick % 10 }
         requires most { count < 2 ^ 62 }
         requires few { first < 2 ^ 63 }
         requires older { tick < first / 2 }
@@ -134,7 +152,7 @@ impl Pass {
         ensures more { IsNone result → tick ≢ 0 }
         ensures nearer { IsNone result → tick + 9 ≢ first / 2 }
     {
-        let seen = look_at(&mut self.seat, tick);
+        let seen = look_at(self.share.words(), &mut self.seat, tick, slot);
         if seen.mark != 2 * tick + 2 {
             return Some(Converted::Again {
                 first: 2 * tick + 2,

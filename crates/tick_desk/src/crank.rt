@@ -1,13 +1,13 @@
 // What drives the counter beside the pen.
-ghost use Rattle.std.specs.Prelude.{◌≡◌, ◌<◌, ◌≤◌, ◌^◌, max};
+ghost use Rattle.std.specs.Prelude.{◌≡◌, ◌<◌, ◌≤◌, ◌^◌, ◌++◌, ◌∷◌, [], max};
 
 use std::marker::Model;
 use tick_table::CrankSeat;
 
 /// Raises the counter, from a thread of its own if need be. The pen lends one at a time.
 ///
-/// Contracts see its table, and its top: the greatest count that it raised the counter to since it
-/// was lent.
+/// Contracts see its table, its top (the greatest count that it raised the counter to since it was
+/// lent), and the counter as each of its raises left it.
 #[derive(Drop)]
 pub struct Crank {
     pub(crate) seat: CrankSeat,
@@ -27,10 +27,11 @@ impl Model for Crank {
 
 impl Crank {
     /// Raises the counter to a count below 2^62, where it is not past it. It never falls. The
-    /// answer is the counter then.
+    /// answer is the counter as this raise left it.
     pub fn raise(&mut self, to: u64) -> u64
         requires { to < 2 ^ 62 }
-        ensures after { self.new ≡ record self.old { top = max self.old.top to } }
+        ensures after { self.new ≡
+            record self.old { top = max self.old.top to; met = self.old.met ++ result ∷ [] } }
         ensures reached { self.new.top ≤ result }
         ensures small { result < 2 ^ 62 }
     {

@@ -24,7 +24,8 @@ impl Desk {
     /// at 0. There is no pass, and no crank is out. Want of memory is the only error.
     pub fn start(alloc: Global) -> Result<Desk, NoMemory>
         ensures fresh { IfOk result (λ d. IsFresh d.pen d.passes.items) }
-        ensures kept { IfOk result (λ d. (d.pen.kept ≡ []) × (d.pen.counters ≡ [])) }
+        ensures kept { IfOk result
+            (λ d. (d.pen.kept ≡ []) × (d.pen.counters ≡ []) × (d.pen.met ≡ [])) }
     {
         let pen = Pen::new(alloc)?;
         let passes = Vec::new(alloc);

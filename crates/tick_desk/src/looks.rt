@@ -1,11 +1,11 @@
 // A look at a tick: its fields, and then its mark.
-ghost use Rattle.std.specs.Prelude.{◌≡◌, ◌≢◌, ◌+◌, ◌*◌, ◌≤◌, ◌<◌, length, true, false, []};
+ghost use Rattle.std.specs.Prelude.{◌≡◌, ◌≢◌, ◌+◌, ◌*◌, ◌%◌, ◌≤◌, ◌<◌, length, true, false, []};
 ghost use Rattle.tick_reads.specs.Looks.{fields_from, full_mark, look};
 ghost use Rattle.tick_reads.specs.Scans.{scan_at};
 ghost use Rattle.tick_views.specs.Views.{scan_of};
 ghost use Rattle.tick_laws.specs.Goes.{GoesOn, LearnsLook};
 
-use tick_table::{FIELDS, PassSeat};
+use tick_table::{FIELDS, PassSeat, Words};
 
 #[derive(Clone, Copy)]
 pub(crate) struct Seen {
@@ -14,7 +14,10 @@ pub(crate) struct Seen {
 }
 
 // The call that stands open is at this tick, and has loaded nothing of it.
-pub(crate) fn load_fields(seat: &mut PassSeat, tick: u64) -> [u64; FIELDS]
+#[inline(always)]
+pub(crate) fn load_fields(words: &Words, seat: &mut PassSeat, tick: u64, slot: u64) -> [u64; FIELDS]
+    requires words { words.now.shared.table_id ≡ seat.old.table }
+    requires slot { slot ≡ tick % 10 }
     requires calling { seat.old.view.calling ≡ true }
     requires at { scan_of seat.old.view ≡ scan_at (scan_of seat.old.view).first tick false [] [] }
     ensures table { seat.new.table ≡ seat.old.table }
@@ -23,12 +26,15 @@ pub(crate) fn load_fields(seat: &mut PassSeat, tick: u64) -> [u64; FIELDS]
 {
     let mut fields = [0; FIELDS];
     for f in 0..FIELDS {
-        fields[f] = seat.load_field(tick, f as u32);
+        fields[f] = seat.load_field(words, tick, slot, f as u32);
     }
     fields
 }
 
-pub(crate) fn look_at(seat: &mut PassSeat, tick: u64) -> Seen
+#[inline(always)]
+pub(crate) fn look_at(words: &Words, seat: &mut PassSeat, tick: u64, slot: u64) -> Seen
+    requires words { words.now.shared.table_id ≡ seat.old.table }
+    requires slot { slot ≡ tick % 10 }
     requires calling { seat.old.view.calling ≡ true }
     requires at { scan_of seat.old.view ≡ scan_at (scan_of seat.old.view).first tick false [] [] }
     ensures table { seat.new.table ≡ seat.old.table }
@@ -37,7 +43,7 @@ pub(crate) fn look_at(seat: &mut PassSeat, tick: u64) -> Seen
     ensures hands { result.mark ≡ full_mark tick → LearnsLook tick result.fields }
     ensures later { result.mark ≢ full_mark tick → 2 * tick + 21 ≤ result.mark }
 {
-    let fields = load_fields(seat, tick);
-    let mark = seat.load_mark(tick);
+    let fields = load_fields(words, seat, tick, slot);
+    let mark = seat.load_mark(words, tick, slot);
     Seen { fields, mark }
 }

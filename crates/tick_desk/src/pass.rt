@@ -4,7 +4,7 @@ ghost use Rattle.tick_views.specs.Views.{learned};
 
 use crate::note::Note;
 use std::marker::Model;
-use tick_table::PassSeat;
+use tick_table::{PassSeat, Share};
 
 /// A reader of the clock. It never waits, takes no memory and writes nothing that others see.
 ///
@@ -13,15 +13,19 @@ use tick_table::PassSeat;
 /// the turn word that its call loaded first.
 #[derive(Drop)]
 pub struct Pass {
+    pub(crate) share: Share,
     pub(crate) seat: PassSeat,
 }
 
 impl Model for Pass {
+    ghost use Rattle.std.specs.Prelude.{◌≡◌};
     ghost use Rattle.tick_table.specs.Sees.{PassSees};
 
     ghost Value = { PassSees };
 
     ghost view = { λ p. p.seat };
+
+    ghost invariant = { λ p. p.share ≡ p.seat.table };
 }
 
 impl Pass {
@@ -34,6 +38,6 @@ impl Pass {
         ensures kept { self.old.view.seen ≤ self.new.view.seen }
     {
         let Note { seat } = note;
-        self.seat.join_note(seat);
+        self.seat.join_note(self.share.words(), seat);
     }
 }

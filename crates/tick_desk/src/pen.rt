@@ -35,7 +35,7 @@ const MOST_TICKS: usize = 1 << 62;
 ///
 /// Contracts see its table, its journal, for how many more ticks it has room, the counters that it
 /// loaded, its top (the greatest count that it, or a crank that it took back, raised the counter
-/// to), whether a crank is out, how many passes were ever made, and what it kept of those that it
+/// to), the counter as each raise of its own left it, whether a crank is out, how many passes were ever made, and what it kept of those that it
 /// took in.
 #[derive(Drop)]
 pub struct Pen {
@@ -59,6 +59,7 @@ impl Model for Pen {
       spare = room_of (vec_capacity p.ticks) - vec_len p.ticks;
       counters = p.seat.view.counters;
       top = p.top;
+      met = p.seat.view.met;
       out = p.out;
       made = p.made;
       kept = p.seat.view.kept;
@@ -67,10 +68,23 @@ impl Model for Pen {
     ghost invariant = { λ p. PenHolds p.seat.view p.ticks.items p.top p.out p.made };
 }
 
+// The newest tick, where it stands.
+#[inline(always)]
+fn newest(ticks: &Vec<Hands>) -> &Hands
+    requires { IsJournal ticks.now.items }
+    ensures value { result.now ≡ newest ticks.now.items }
+    ensures sound { IsSound result.now }
+{
+    match ticks.last() {
+        Some(h) => h,
+        None => unreachable!(),
+    }
+}
+
 impl Pen {
     // The pen of a clock that was never set. Want of memory is the only error.
     pub(crate) fn new(alloc: Global) -> Result<Pen, NoMemory>
-        ensures { IfOk result (λ p. p ≡ new_pen p.table p.spare []) }
+        ensures { IfOk result (λ p. p ≡ new_pen p.table p.spare [] []) }
     {
         let seat = PenSeat::new(alloc)?;
         let mut ticks = Vec::new(alloc);
@@ -105,26 +119,16 @@ impl Pen {
     }
 
     /// Raises the counter to a count below 2^62, where it is not past it. It never falls. The
-    /// answer is the counter then.
+    /// answer is the counter as this raise left it.
+    #[inline(always)]
     pub fn advance(&mut self, to: u64) -> u64
         requires { to < 2 ^ 62 }
-        ensures after { self.new ≡ record self.old { top = max self.old.top to } }
+        ensures after { self.new ≡
+            record self.old { top = max self.old.top to; met = self.old.met ++ result ∷ [] } }
         ensures counter { IsCounter self.new result }
     {
         self.top = self.top.max(to);
         self.seat.raise_counter(to)
-    }
-
-    // The newest tick.
-    fn newest(&self) -> Hands
-        ensures value { result ≡ newest self.now.journal }
-        ensures sound { IsSound result }
-        ensures some { 0 < length self.now.journal }
-    {
-        match self.ticks.last() {
-            Some(h) => *h,
-            None => unreachable!(),
-        }
     }
 
     /// Winds the clock by an order, at the counter. There has to be room for one more tick, and the
@@ -135,18 +139,19 @@ impl Pen {
     /// count is above the counter, which is loaded for that, and told. After either nothing has
     /// changed. Else the turn word is opened and the counter is loaded, as the new tick's count.
     /// After FreeBSD's `ffclock_windup`.
+    #[inline(always)]
     pub fn wind(&mut self, o: Order) -> Result<u64, Refuse>
         requires sane { is_sane o ≡ true }
         requires spare { 1 ≤ self.old.spare }
         ensures { Winds self.old self.new o result }
     {
-        let last = self.newest();
+        let last = newest(&self.ticks);
         let tick = self.ticks.len() as u64;
-        if let Some(why) = refusal(&mut self.seat, &last, &o) {
+        if let Some(why) = refusal(&mut self.seat, last, &o) {
             return Err(why);
         }
         let count = open(&mut self.seat);
-        let hands = wind(&last, count, &o);
+        let hands = wind(last, count, &o);
         publish(&mut self.seat, tick, &hands);
         self.ticks.push_reserved(hands);
         Ok(tick)
@@ -158,14 +163,14 @@ impl Pen {
         requires { IsReadable kind }
         ensures { ReadsNewest self.old self.new kind result }
     {
-        let last = self.newest();
+        let last = newest(&self.ticks);
         let counter = self.seat.load_counter();
         let count = match kind {
             Kind::Fast => last.count,
             Kind::Diff | Kind::Back => unreachable!(),
             Kind::Abs | Kind::Mono | Kind::Uptime | Kind::Utc => counter,
         };
-        reading(kind, self.ticks.len() as u64 - 1, &last, count)
+        reading(kind, self.ticks.len() as u64 - 1, last, count)
     }
 
     /// A note of the whole journal.
@@ -198,7 +203,8 @@ impl Pen {
     {
         self.made += 1;
         Pass {
-            seat: self.seat.split_pass(share),
+            share,
+            seat: self.seat.split_pass(),
         }
     }
 
@@ -207,7 +213,7 @@ impl Pen {
     ///
     /// Each entry is what the journal allows, and current at the turn word that its call loaded
     /// first; the counts of its readings, but for intervals, are below 2^62, and while no crank is
-    /// out at most the pen's top. What was kept of the passes before is legal over the journal as it
+    /// out at most the pen's top. So is each counter that the pass loaded. What was kept of the passes before is legal over the journal as it
     /// stands now, too, so all that is kept can be compared. No two passes that were taken in have
     /// one number.
     pub fn take_in(&mut self, pass: Pass)
@@ -215,11 +221,12 @@ impl Pen {
         ensures after { self.new ≡
             record self.old { kept = self.old.kept ++ kept_of pass.view ∷ [] } }
         ensures legal { IsKeptLegal self.old.journal self.old.top self.old.out (kept_of pass.view) }
+        ensures counters { self.old.out ≡ false → AllBelow self.old.top pass.view.counters }
         ensures all { (i : ℕ) (k : Kept) → slice_get self.new.kept i ≡ Some k →
             IsKeptLegal self.old.journal self.old.top self.old.out k }
         ensures once { IsOnce self.new.kept }
     {
-        let Pass { seat } = pass;
+        let Pass { share: _, seat } = pass;
         self.seat.join_pass(seat);
         self.seat.load_turn();
     }
@@ -268,7 +275,7 @@ impl Pen {
     // Whether nothing was done with this pen.
     pub(crate) fn is_fresh(&self) -> bool
         ensures fresh { result ≡ true →
-            self.now ≡ new_pen self.now.table self.now.spare self.now.counters }
+            self.now ≡ new_pen self.now.table self.now.spare self.now.counters self.now.met }
         ensures exact { (self.now.journal ≡ cold ∷ []) × (self.now.top ≡ 0) ×
             (self.now.out ≡ false) × (self.now.made ≡ 0) → result ≡ true }
     {

@@ -49,6 +49,7 @@ impl Model for Begun {
         record { kind = b.kind; first = b.first; pass = b.pass.value } };
 }
 
+#[inline(always)]
 pub(crate) fn reading(kind: Kind, tick: u64, hands: &Hands, count: u64) -> Reading
     requires sound { IsSound hands.now }
     requires most { count < 2 ^ 62 }
@@ -65,6 +66,7 @@ pub(crate) fn reading(kind: Kind, tick: u64, hands: &Hands, count: u64) -> Readi
 }
 
 // The count of a read that needs no counter: the tick's own, or the interval that was given.
+#[inline(always)]
 fn quick_count(ask: Ask, hands: &Hands) -> u64
     requires way { way_of ask.kind ≡ quick }
     requires sound { IsSound hands.now }
@@ -85,6 +87,7 @@ impl Pass {
     ///
     /// Where the turn word is odd a windup stands open, and all kinds but `Fast` are decided by it:
     /// the entry, which is `Again`, is noted here. Any other read goes on by `finish`.
+    #[inline(always)]
     pub fn begin(&mut self, kind: Kind) -> Begun
         requires { IsReadable kind }
         ensures kind { result.kind ≡ kind }
@@ -92,7 +95,9 @@ impl Pass {
         ensures table { self.new.table ≡ self.old.table }
         ensures calls { Calls self.old.view self.new.view (ask_of kind) (Turn result.first ∷ []) }
     {
-        let first = self.seat.open_call(Ask { kind, given: 0 });
+        let first = self
+            .seat
+            .open_call(self.share.words(), Ask { kind, given: 0 });
         Begun {
             kind,
             first,
@@ -102,6 +107,7 @@ impl Pass {
 
     /// The rest of a read that was begun, on the pass as that left it: all later loads, and the
     /// answer.
+    #[inline(always)]
     pub fn finish(&mut self, begun: Begun) -> Answer
         requires { begun.pass ≡ self.old }
         ensures finishes { Finishes self.old self.new begun.kind (entry_by begun.kind result) }
@@ -131,6 +137,7 @@ impl Pass {
     /// second load. `Fast` loads the turn word, the fields and the mark of the tick's slot, and is
     /// `Again` only where the slot was taken for a tick that comes at least ten later. After
     /// FreeBSD's `ffclock_abstime`.
+    #[inline(always)]
     pub fn read(&mut self, kind: Kind) -> Answer
         requires { IsReadable kind }
         ensures adds { Adds self.old self.new (ask_of kind) (entry_by kind result) }
@@ -142,6 +149,7 @@ impl Pass {
 
     /// How long an interval of counts below 2^62 is, by the newest tick, read as `Fast` is. After
     /// FreeBSD's `ffclock_difftime`.
+    #[inline(always)]
     pub fn diff(&mut self, delta: u64) -> Answer
         requires { delta < 2 ^ 62 }
         ensures adds { Adds self.old self.new (ask_diff delta) (entry_by kind.Diff result) }
@@ -151,10 +159,12 @@ impl Pass {
             kind: Kind::Diff,
             given: delta,
         };
-        let first = self.seat.open_call(ask);
+        let first = self.seat.open_call(self.share.words(), ask);
         self.finish_quick(ask, first)
     }
 
+    // Each kind has a copy of the code of its own, which keeps in hand only those fields that it needs.
+    #[inline(always)]
     fn finish_whole(&mut self, kind: Kind, first: u64) -> Answer
         requires way { way_of kind ≡ full }
         requires at { IsStarted self.old.view (ask_of kind) first }
@@ -162,10 +172,28 @@ impl Pass {
         ensures answers { Answers self.old.view self.new.view (entry_by kind result) }
         ensures by { IsEntryBy (hands_of self.new.view) (entry_by kind result) }
     {
+        match kind {
+            Kind::Abs => self.finish_kind(Kind::Abs, first),
+            Kind::Mono => self.finish_kind(Kind::Mono, first),
+            Kind::Uptime => self.finish_kind(Kind::Uptime, first),
+            Kind::Utc => self.finish_kind(Kind::Utc, first),
+            Kind::Fast | Kind::Diff | Kind::Back => unreachable!(),
+        }
+    }
+
+    #[inline(always)]
+    fn finish_kind(&mut self, kind: Kind, first: u64) -> Answer
+        requires way { way_of kind ≡ full }
+        requires at { IsStarted self.old.view (ask_of kind) first }
+        ensures table { self.new.table ≡ self.old.table }
+        ensures answers { Answers self.old.view self.new.view (entry_by kind result) }
+        ensures by { IsEntryBy (hands_of self.new.view) (entry_by kind result) }
+    {
         let tick = first / 2;
-        let fields = load_fields(&mut self.seat, tick);
-        let count = self.seat.load_counter();
-        let last = self.seat.load_turn();
+        let words = self.share.words();
+        let fields = load_fields(words, &mut self.seat, tick, tick % 10);
+        let count = self.seat.load_counter(words);
+        let last = self.seat.load_turn(words);
         if last != first {
             return Answer::Again { first, last };
         }
@@ -174,6 +202,7 @@ impl Pass {
     }
 
     // The rest of a read that looks at a mark.
+    #[inline(always)]
     fn finish_quick(&mut self, ask: Ask, first: u64) -> Answer
         requires way { way_of ask.kind ≡ quick }
         requires most { ask.given < 2 ^ 62 }
@@ -185,7 +214,7 @@ impl Pass {
         ensures late { IsLate ask.kind result }
     {
         let tick = first / 2;
-        let seen = look_at(&mut self.seat, tick);
+        let seen = look_at(self.share.words(), &mut self.seat, tick, tick % 10);
         if seen.mark != 2 * tick + 2 {
             return Answer::Again {
                 first: 2 * tick + 2,

@@ -12,6 +12,7 @@ use hand_words::sound_hands_pack;
 use tick_table::{FIELDS, PenSeat, pack};
 
 // Why an order is refused, if it is. The counter is loaded where it matters.
+#[inline(always)]
 pub(crate) fn refusal(seat: &mut PenSeat, last: &Hands, o: &Order) -> Option<Refuse>
     ensures table { seat.new.table ≡ seat.old.table }
     ensures tested { Tested seat.old.view seat.new.view last.now o.now result }
@@ -33,6 +34,7 @@ pub(crate) fn refusal(seat: &mut PenSeat, last: &Hands, o: &Order) -> Option<Ref
 
 // Opens the turn word, and only then loads the counter, which is the tick's count: so no reading
 // that the turn word lets pass is at a count past it.
+#[inline(always)]
 pub(crate) fn open(seat: &mut PenSeat) -> u64
     requires closed { seat.old.view.winding ≡ false }
     requires room { length seat.old.view.journal < 2 ^ 62 }
@@ -44,6 +46,7 @@ pub(crate) fn open(seat: &mut PenSeat) -> u64
     seat.load_counter()
 }
 
+#[inline(always)]
 fn store_all(seat: &mut PenSeat, tick: u64, words: &[u64; FIELDS])
     requires winding { seat.old.view.winding ≡ true }
     requires marked { seat.old.view.marked ≡ true }
@@ -59,6 +62,7 @@ fn store_all(seat: &mut PenSeat, tick: u64, words: &[u64; FIELDS])
 }
 
 // Writes the hands between the two stores of their mark, and closes the turn word.
+#[inline(always)]
 pub(crate) fn publish(seat: &mut PenSeat, tick: u64, h: &Hands)
     requires winding { seat.old.view.winding ≡ true }
     requires unmarked { seat.old.view.marked ≡ false }

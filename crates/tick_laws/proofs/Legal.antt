@@ -24,7 +24,7 @@ use Rattle.clock_logs.specs.Logs.{IsAgain, IsEntry, tick_shown, newest_by, count
 use Rattle.clock_logs.proofs.Places.{counts-rise}
 use Rattle.tick_reads.specs.Ways.{needs_even, count_by}
 use Rattle.tick_views.specs.declared.views.PenView.{PenView}
-use Rattle.tick_views.specs.Worlds.{World, Rises, opening_of, IsTimely, FitsCount, FitsRead, Crossed, Overtaken, FitsAgain, FitsEntry, count_if, counts_in, counts_of, FitsLog, FitsKept, AllBelow, or_else}
+use Rattle.tick_views.specs.Worlds.{World, NeverFall, opening_of, IsTimely, FitsCount, FitsRead, MetWindup, LostSlot, FitsAgain, FitsEntry, count_if, counts_in, counts_of, FitsLog, FitsKept, AllBelow, or_else}
 use Rattle.tick_views.proofs.Grow.{in_list}
 use Rattle.tick_views.proofs.Loads.{there}
 use Rattle.tick_table.specs.Rule.{world_of}
@@ -33,14 +33,14 @@ use Rattle.tick_table.proofs.Lists.{Some_same, to_some, to_Some}
 use Rattle.tick_laws.specs.Logs.{IsKeptLegal}
 
 -- of two members that never fall the later one is not less
-rises_at : (xs : List ℕ) → Rises xs → (i j x y : ℕ) → i < j → get_elem? xs i ≡ some x → get_elem? xs j ≡ some y → x ≤ y
+rises_at : (xs : List ℕ) → NeverFall xs → (i j x y : ℕ) → i < j → get_elem? xs i ≡ some x → get_elem? xs j ≡ some y → x ≤ y
 rises_at [] r i j x y less a b = absurd (some-ne-none x (sym a))
 rises_at (z ∷ xs) r zero zero x y less a b = absurd (omega arith)
 rises_at (z ∷ xs) r zero (suc j) x y less a b = subst (λ k. k ≤ y) (some-injective z x a) (r.0 j y b)
 rises_at (z ∷ xs) r (suc i) zero x y less a b = absurd (omega arith)
 rises_at (z ∷ xs) r (suc i) (suc j) x y less a b = rises_at xs r.1 i j x y (omega arith) a b
 
-rises_rest : (xs ys : List ℕ) → Rises (xs ++ ys) → Rises ys
+rises_rest : (xs ys : List ℕ) → NeverFall (xs ++ ys) → NeverFall ys
 rises_rest [] ys r = r
 rises_rest (x ∷ xs) ys r = rises_rest xs ys r.1
 
@@ -76,11 +76,11 @@ count_among [] i c n at shown = absurd (some-ne-none n (sym at))
 count_among (x ∷ xs) zero c n at shown = let is = counts_of_it x.entry c (ap (λ (z : Noted). count_shown z.entry) (some-injective x n at) ∙ shown) in (0, ap (λ l. get_elem? (l ++ counts_of xs) 0) is)
 count_among (x ∷ xs) (suc i) c n at shown = let r = count_among xs i c n at shown in at_right (counts_in x.entry) (counts_of xs) r.0 c r.1
 
-counts_at : (log : List Noted) → Rises (counts_of log) → (i j x y : ℕ) (d e : Noted) → i < j → get_elem? log i ≡ some d → get_elem? log j ≡ some e → count_shown d.entry ≡ Some x → count_shown e.entry ≡ Some y → x ≤ y
+counts_at : (log : List Noted) → NeverFall (counts_of log) → (i j x y : ℕ) (d e : Noted) → i < j → get_elem? log i ≡ some d → get_elem? log j ≡ some e → count_shown d.entry ≡ Some x → count_shown e.entry ≡ Some y → x ≤ y
 counts_at [] r i j x y d e less a b p q = absurd (some-ne-none d (sym a))
 counts_at (n ∷ ns) r zero zero x y d e less a b p q = absurd (omega arith)
 counts_at (n ∷ ns) r zero (suc j) x y d e less a b p q = let is = counts_of_it n.entry x (ap (λ (z : Noted). count_shown z.entry) (some-injective n d a) ∙ p) in
-    let rises : Rises (x ∷ counts_of ns) = subst (λ l. Rises (l ++ counts_of ns)) is r in let m = count_among ns j y e b q in rises.0 m.0 y m.1
+    let rises : NeverFall (x ∷ counts_of ns) = subst (λ l. NeverFall (l ++ counts_of ns)) is r in let m = count_among ns j y e b q in rises.0 m.0 y m.1
 counts_at (n ∷ ns) r (suc i) zero x y d e less a b p q = absurd (omega arith)
 counts_at (n ∷ ns) r (suc i) (suc j) x y d e less a b p q = counts_at ns (rises_rest (counts_in n.entry) (counts_of ns) r) i j x y d e (omega arith) a b p q
 
@@ -126,13 +126,13 @@ module _ (w : World) (legal : IsJournal w.journal) (closed : w.turn ≡ 2 * (len
   read_legal : (o : ℕ) (r : Reading) → FitsRead w o r → IsReading w.journal r
   read_legal o r f = subst (IsReading w.journal) (sym f.is) record { hands = f.hands; tick = to_Some w.journal r.tick f.hands f.at; time = refl; bound = refl; place = placed f.ask.given r.tick f.hands f.counter f.at f.ask.kind f.count }
 
-  crossed_legal : (o first last : ℕ) → Crossed w o first last → logs.Crossed w.journal first last
+  crossed_legal : (o first last : ℕ) → MetWindup w o first last → logs.Crossed w.journal first last
   crossed_legal o first last f = let below : last ≤ w.turn = f.1 in record {
     met = ⊎_elim (λ (open_one : (first ≡ last) × (first % 2 ≡ 1)). inl (open_one.1, sym open_one.0)) (λ (came : (first < last) × (first % 2 ≡ 0)). inr (came.1, came.0)) f.2;
     made = omega arith;
   }
 
-  overtaken_legal : (m o first last : ℕ) → m ≤ o / 2 → o ≤ w.turn → Overtaken w m first last → logs.Overtaken w.journal first last
+  overtaken_legal : (m o first last : ℕ) → m ≤ o / 2 → o ≤ w.turn → LostSlot w m first last → logs.Overtaken w.journal first last
   overtaken_legal m o first last near began f = let k : ℕ = f.1.0 in let up : m + 10 ≤ k = f.1.2 in let same : k % 10 ≡ m % 10 = f.1.3 in let top : k ≤ (w.turn + 1) / 2 = f.1.4 in
       let k-is : (last - 1) / 2 ≡ k = ⊎_elim (λ (odd : last ≡ 2 * k + 1). omega arith) (λ (even : last ≡ 2 * k + 2). omega arith) f.1.1 in
       record { tick = m; there = omega arith; mark = f.0; later = omega arith; slot = ap (λ t. t % 10) k-is ∙ same; made = omega arith }
@@ -140,7 +140,7 @@ module _ (w : World) (legal : IsJournal w.journal) (closed : w.turn ≡ 2 * (len
   again_legal : (y : Way) (o first last : ℕ) → o ≤ w.turn → FitsAgain w y o first last → IsAgain y w.journal first last
   again_legal full o first last began f = crossed_legal o first last f
   again_legal quick o first last began f = overtaken_legal (o / 2) o first last (le_refl (o / 2)) began f
-  again_legal past o first last began f = ⊎_elim (λ (x : Crossed w o first last). inl (crossed_legal o first last x)) (λ (x : (m : ℕ) × IsReadSince past m o × Overtaken w m first last). inr (overtaken_legal x.0 o first last x.1.0 began x.2)) f
+  again_legal past o first last began f = ⊎_elim (λ (x : MetWindup w o first last). inl (crossed_legal o first last x)) (λ (x : (m : ℕ) × IsReadSince past m o × LostSlot w m first last). inr (overtaken_legal x.0 o first last x.1.0 began x.2)) f
 
   entry_legal : (o : ℕ) (e : Entry) → o ≤ w.turn → FitsEntry w o e → IsEntry w.journal e
   entry_legal o (Read r) began f = read_legal o r f
@@ -155,34 +155,34 @@ module _ (w : World) (legal : IsJournal w.journal) (closed : w.turn ≡ 2 * (len
   entry_within o (Ahead c a) x f below e = below x e
 
 -- an entry is current at its opening value
-entry_since : (w : World) (o : ℕ) (e : Entry) → FitsEntry w o e → IsSince e o
+entry_since : (w : World) (o : ℕ) (e : Entry) → FitsEntry w o e → IsSince w.journal e o
 entry_since w o (Read r) f = subst (λ (z : Reading). IsReadSince (way_of z.kind) r.tick o) (sym f.is) f.tick
 entry_since w o (Again k a b) f = by_way (way_of k) f
   where
     by_way : (y : Way) → FitsAgain w y o a b → logs.IsMetSince y a o
     by_way full f = f.0
     by_way quick f = f.0
-    by_way past f = tt
-entry_since w o (TooOld c a) f = tt
+    by_way past f = ⊎_elim (λ (x : MetWindup w o a b). inl x.0) (λ (x : (m : ℕ) × IsReadSince past m o × LostSlot w m a b). inr (x.0, x.1, x.2.0)) f
+entry_since w o (TooOld c a) f = record { tick = f.tick; tenth = f.later; hands = f.hands; at = to_Some w.journal f.tick f.hands f.at; oldest_is = f.is }
 entry_since w o (Ahead c a) f = tt
 
 -- the tick that it shows is that of its opening value
-tick_since : (e : Entry) (o x : ℕ) → IsSince e o → tick_shown e ≡ Some x → x ≡ o / 2
-tick_since (Read r) o x since e = by_way (way_of r.kind) since e
+tick_since : (ticks : List Hands) (e : Entry) (o x : ℕ) → IsSince ticks e o → tick_shown e ≡ Some x → x ≡ o / 2
+tick_since ticks (Read r) o x since e = by_way (way_of r.kind) since e
   where
     by_way : (y : Way) → IsReadSince y r.tick o → newest_by y r.tick ≡ Some x → x ≡ o / 2
     by_way full s e = sym (Some_same r.tick x e) ∙ s
     by_way quick s e = sym (Some_same r.tick x e) ∙ s
     by_way past s e = cc
-tick_since (Again k a b) o x since e = cc
-tick_since (TooOld c a) o x since e = cc
-tick_since (Ahead c a) o x since e = cc
+tick_since ticks (Again k a b) o x since e = cc
+tick_since ticks (TooOld c a) o x since e = cc
+tick_since ticks (Ahead c a) o x since e = cc
 
 module _ (w : World) (log : List Noted) (f : FitsLog w log) where
   opened_in_order : (i j : ℕ) (d e : Noted) → i < j → get_elem? log i ≡ some d → get_elem? log j ≡ some e → d.opening ≤ e.opening
   opened_in_order i j d e less a b = rises_at (map opening_of log) f.rises i j d.opening e.opening less (opening_at log i d a) (opening_at log j e b)
 
-  pub log_since : AreSince log
+  pub log_since : AreSince w.journal log
   log_since = record {
     each = λ k e at. entry_since w e.opening e.entry (f.each k e (to_some log k e at));
     rise = λ i j d e less a b. opened_in_order i j d e less (to_some log i d a) (to_some log j e b);
@@ -196,7 +196,7 @@ module _ (w : World) (log : List Noted) (f : FitsLog w log) where
     log_legal = record {
       each = λ k e at. let n = noted_at log k e at in subst (IsEntry w.journal) n.2 (entry_legal w legal closed some-tick bound reached n.0.opening n.0.entry (f.below k n.0.opening (opening_at log k n.0 n.1)) (f.each k n.0 n.1));
       ticks_rise = λ i j x y d e less a b p q. let m = noted_at log i d a in let n = noted_at log j e b in
-          ticks_in_order x y m.0.opening n.0.opening (tick_since m.0.entry m.0.opening x (entry_since w m.0.opening m.0.entry (f.each i m.0 m.1)) (ap tick_shown m.2 ∙ p)) (tick_since n.0.entry n.0.opening y (entry_since w n.0.opening n.0.entry (f.each j n.0 n.1)) (ap tick_shown n.2 ∙ q))
+          ticks_in_order x y m.0.opening n.0.opening (tick_since w.journal m.0.entry m.0.opening x (entry_since w m.0.opening m.0.entry (f.each i m.0 m.1)) (ap tick_shown m.2 ∙ p)) (tick_since w.journal n.0.entry n.0.opening y (entry_since w n.0.opening n.0.entry (f.each j n.0 n.1)) (ap tick_shown n.2 ∙ q))
           (opened_in_order i j m.0 n.0 less m.1 n.1);
       counts_rise = λ i j x y d e less a b p q. let m = noted_at log i d a in let n = noted_at log j e b in counts_at log f.counts_rise i j x y m.0 n.0 less m.1 n.1 (ap count_shown m.2 ∙ p) (ap count_shown n.2 ∙ q);
     }

@@ -8,7 +8,7 @@ use Rattle.tick_reads.specs.declared.loads.Load.{Load}
 use Rattle.tick_reads.specs.declared.loads.Load.TheVariants.{Turn, Field, Mark, Counter}
 use Rattle.tick_reads.specs.Looks.{full_mark}
 use Rattle.tick_reads.specs.Ways.{needs_even}
-use Rattle.tick_reads.specs.Scans.{Scan, fresh, after, run, decided, is_even, has_fields, ends, opened, turned, turn_again, goes_down, finds_top, finds_line, looks_at, finds_mark, walks, mark_by, counts_back, counter_back, counter_by}
+use Rattle.tick_reads.specs.Scans.{Scan, fresh, after, run, decided, is_even, has_fields, ends, opened, turned, turn_again, goes_down, finds_top, finds_line, looks_at, finds_mark, walks, mark_by, counts_back, counter_back, takes_counter}
 use Rattle.tick_reads.proofs.Endings.{no_field_first, no_counter_first, no_mark_first, none_some}
 
 -- a call that has begun keeps its first turn value
@@ -54,7 +54,7 @@ module _ (ask : Ask) (s : Scan) (begun : s.begun ≡ true) where
   counter_back_keeps true x = counts_keep (nat_lt x ask.given) x
   counter_back_keeps false x = (refl, refl)
 
-  counter_keeps : (y : Way) (x : ℕ) → Keeps s (counter_by y ask s x)
+  counter_keeps : (y : Way) (x : ℕ) → Keeps s (takes_counter y ask s x)
   counter_keeps full x = (refl, refl)
   counter_keeps quick x = (refl, refl)
   counter_keeps past x = counter_back_keeps (s.good && s.line && (length s.counters == 0)) x

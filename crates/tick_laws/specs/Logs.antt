@@ -11,7 +11,7 @@ use Rattle.tick_views.specs.Worlds.{AllBelow}
 pub record IsKeptLegal (ticks : List Hands) (top : ℕ) (out : Bool) (k : Kept) : Type 0 where
   pub seen : k.seen ≤ length ticks
   pub legal : IsLog ticks (map entry_of k.entries)
-  pub since : AreSince k.entries
+  pub since : AreSince ticks k.entries
   pub small : AreWithin (2 ^ 62 - 1) (map entry_of k.entries)
   pub counters : out ≡ false → AllBelow top k.counters
   pub within : out ≡ false → AreWithin top (map entry_of k.entries)

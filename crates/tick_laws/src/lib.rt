@@ -17,5 +17,7 @@
 #![tactic(auto)]
 
 mod laws;
+mod refusals;
 
 pub use laws::{calls_are_answered_as_asked, conversions_agree, kept_logs_are_legal};
+pub use refusals::kept_logs_are_refused;

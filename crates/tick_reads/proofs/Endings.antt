@@ -5,20 +5,20 @@ use Rattle.tick_reads.specs.declared.loads.Ask.{Ask}
 use Rattle.tick_reads.specs.declared.loads.Load.{Load}
 use Rattle.tick_reads.specs.declared.loads.Load.TheVariants.{Turn, Field, Mark, Counter}
 use Rattle.clock_logs.specs.Legal.{Way, full, quick, past, way_of}
-use Rattle.tick_reads.specs.Scans.{Scan, fresh, has_fields, ends, turn_ends, mark_ends, turn_again, turned, mark_by, walks, counter_by, counter_back, field_on, after, run}
+use Rattle.tick_reads.specs.Scans.{Scan, fresh, has_fields, ends, turn_ends, mark_ends, turn_again, turned, mark_by, walks, takes_counter, counter_back, field_on, after, run}
 
 -- a call that has begun goes on by its way
 unfoldable pub after_by : Way → Ask → Scan → Load → Scan
 after_by y ask s (Turn x) = turn_again y ask s x
 after_by y ask s (Field t f x) = field_on s t f x
-after_by y ask s (Counter x) = counter_by y ask s x
+after_by y ask s (Counter x) = takes_counter y ask s x
 after_by y ask s (Mark t x) = mark_by y ask s t x
 
 pub by_way : (y : Way) (ask : Ask) → way_of ask.kind ≡ y → (s : Scan) → s.begun ≡ true → (l : Load) → after ask s l ≡ after_by y ask s l
 unfolding after_by
 by_way y ask e s begun (Turn x) = (λ i. turned (begun i) ask s x) ∙ (λ i. turn_again (e i) ask s x)
 by_way y ask e s begun (Field t f x) = refl
-by_way y ask e s begun (Counter x) = λ i. counter_by (e i) ask s x
+by_way y ask e s begun (Counter x) = λ i. takes_counter (e i) ask s x
 by_way y ask e s begun (Mark t x) = λ i. mark_by (e i) ask s t x
 
 -- a call that will have no further answer: it went astray, or a full read has a sixteenth field or a second counter
@@ -120,11 +120,11 @@ lost_at_once quick s bad = bad
 lost_at_once past s bad = bad
 
 module _ (ask : Ask) (y : Way) (way : way_of ask.kind ≡ y) where
-  counter_first : (z : Way) (x : ℕ) → IsOut y (counter_by z ask fresh x)
+  counter_first : (z : Way) (x : ℕ) → IsOut y (takes_counter z ask fresh x)
   unfolding IsOut
-  counter_first full x = (refl, refl, lost_at_once y (counter_by full ask fresh x) refl)
-  counter_first quick x = (refl, refl, lost_at_once y (counter_by quick ask fresh x) refl)
-  counter_first past x = (refl, refl, lost_at_once y (counter_by past ask fresh x) refl)
+  counter_first full x = (refl, refl, lost_at_once y (takes_counter full ask fresh x) refl)
+  counter_first quick x = (refl, refl, lost_at_once y (takes_counter quick ask fresh x) refl)
+  counter_first past x = (refl, refl, lost_at_once y (takes_counter past ask fresh x) refl)
 
   mark_first : (z : Way) (t x : ℕ) → IsOut y (mark_by z ask fresh t x)
   unfolding IsOut

@@ -9,7 +9,7 @@ use Rattle.tick_reads.specs.declared.loads.Load.TheVariants.{Turn, Field, Mark, 
 use Rattle.clock_logs.specs.Legal.{full, quick, way_of}
 use Rattle.tick_reads.specs.Ways.{needs_even}
 use Rattle.tick_reads.specs.Looks.{full_mark, fields_from, look}
-use Rattle.tick_reads.specs.Scans.{Scan, fresh, scan_at, is_even, read_by, ends, at_turn, at_mark, turn_ends, mark_ends, opens_at, opened, turn_again, goes_down, finds_top, finds_line, looks_at, finds_mark, walks, mark_by, counts_back, counter_by, after, run}
+use Rattle.tick_reads.specs.Scans.{Scan, fresh, scan_at, is_even, read_by, ends, at_turn, at_mark, turn_ends, mark_ends, opens_at, opened, turn_again, goes_down, finds_top, finds_line, looks_at, finds_mark, walks, mark_by, counts_back, takes_counter, after, run}
 use Rattle.tick_reads.specs.Converts.{Down, opens, goes, ask_back}
 
 pub run-append : (ask : Ask) (s : Scan) (ls ms : List Load) → run ask s (ls ++ ms) ≡ run ask (run ask s ls) ms
@@ -107,7 +107,7 @@ is_down given w m loads (goes m' before fields down long low more) = let nz : su
 -- a full read, and a fast one
 module _ (ask : Ask) (w m : ℕ) (fields : List ℕ) (long : length fields ≡ 15) where
   pub whole_counts : way_of ask.kind ≡ full → (c : ℕ) → after ask (scan_at w m false fields []) (Counter c) ≡ scan_at w m false fields (c ∷ [])
-  whole_counts way c = (λ i. counter_by (way i) ask (scan_at w m false fields []) c) ∙ (λ i. record (scan_at w m false fields (c ∷ [])) { good = true && eq-eqb (length fields) 15 long i })
+  whole_counts way c = (λ i. takes_counter (way i) ask (scan_at w m false fields []) c) ∙ (λ i. record (scan_at w m false fields (c ∷ [])) { good = true && eq-eqb (length fields) 15 long i })
 
   pub whole_ends : way_of ask.kind ≡ full → (c x : ℕ) → after ask (scan_at w m false fields (c ∷ [])) (Turn x) ≡ ends (Some (at_turn (x == w) ask (scan_at w m false fields (c ∷ [])) x)) (scan_at w m false fields (c ∷ []))
   whole_ends way c x = (λ i. turn_again (way i) ask (scan_at w m false fields (c ∷ [])) x) ∙ (λ i. ends (turn_ends (true && eq-eqb (length fields) 15 long i && true) ask (scan_at w m false fields (c ∷ [])) x) (scan_at w m false fields (c ∷ [])))

@@ -15,7 +15,7 @@ use Rattle.tick_reads.specs.declared.loads.Load.TheVariants.{Turn, Field, Mark, 
 use Rattle.clock_logs.specs.Legal.{Way, full, quick, past, way_of}
 use Rattle.tick_reads.specs.Ways.{count_by, reading}
 use Rattle.tick_reads.specs.Looks.{full_mark, fields_from, look}
-use Rattle.tick_reads.specs.Scans.{Scan, fresh, scan_at, ends, at_turn, at_mark, turn_ends, mark_ends, opens_at, turn_again, counter_by, field_on, after, run, decided}
+use Rattle.tick_reads.specs.Scans.{Scan, fresh, scan_at, ends, at_turn, at_mark, turn_ends, mark_ends, opens_at, turn_again, takes_counter, field_on, after, run, decided}
 use Rattle.tick_reads.specs.Converts.{ask_back}
 use Rattle.tick_reads.specs.Reads.{whole_loads, ReadsWhole, turn_open, turn_moved, turn_still, ReadsLight, mark_moved, mark_still, ReadsBy, Reads, StoodStill, Moved}
 use Rattle.tick_reads.proofs.Conversions.{decides, explains}
@@ -99,9 +99,9 @@ module _ (ask : Ask) (way : way_of ask.kind ≡ full) where
     whole_field t f x true true e g = let scan : field_on s0 t f x ≡ scan_at (2 * n) n false (fields ++ x ∷ []) [] = λ i. record (scan_at (2 * n) n false (fields ++ x ∷ []) []) { good = e i && g i } in
         subst (λ (z : List Load × Scan). GoesWhole n z.0 z.1) (λ i. (sym (field_more (2 * n) n t f x fields e g) i, sym scan i)) (further ask full way (StageWhole n) (ReadsWhole ask.kind) _ _ (looking (fields ++ x ∷ [])))
 
-    whole_counter : (c : ℕ) (a : Bool) → (length fields == 15) ≡ a → GoesWhole n (far ++ Counter c ∷ []) (counter_by full ask s0 c)
-    whole_counter c false e = astray ask full way (StageWhole n) (ReadsWhole ask.kind) _ (counter_by full ask s0 c) refl (inl e) refl
-    whole_counter c true e = let scan : counter_by full ask s0 c ≡ scan_at (2 * n) n false fields (c ∷ []) = λ i. record (scan_at (2 * n) n false fields (c ∷ [])) { good = e i } in
+    whole_counter : (c : ℕ) (a : Bool) → (length fields == 15) ≡ a → GoesWhole n (far ++ Counter c ∷ []) (takes_counter full ask s0 c)
+    whole_counter c false e = astray ask full way (StageWhole n) (ReadsWhole ask.kind) _ (takes_counter full ask s0 c) refl (inl e) refl
+    whole_counter c true e = let scan : takes_counter full ask s0 c ≡ scan_at (2 * n) n false fields (c ∷ []) = λ i. record (scan_at (2 * n) n false fields (c ∷ [])) { good = e i } in
         subst (GoesWhole n (far ++ Counter c ∷ [])) (sym scan) (further ask full way (StageWhole n) (ReadsWhole ask.kind) _ _ (counted fields c (eqb-true (length fields) 15 e)))
 
     module _ (c : ℕ) (long : length fields ≡ 15) where
@@ -128,7 +128,7 @@ module _ (ask : Ask) (way : way_of ask.kind ≡ full) where
   next_whole n loads s (counted fields c long) (Turn x) = whole_turn n fields c long x
   next_whole n loads s (counted fields c long) (Field t f x) = astray ask full way (StageWhole n) (ReadsWhole ask.kind) _ (field_on (s1 n fields c long) t f x) refl (inr (inl (let h : length (fields ++ x ∷ []) ≡ length fields + 1 = length-append fields (x ∷ []) in omega arith))) refl
   next_whole n loads s (counted fields c long) (Mark t x) = astray ask full way (StageWhole n) (ReadsWhole ask.kind) _ (ends None (s1 n fields c long)) refl (inl refl) refl
-  next_whole n loads s (counted fields c long) (Counter x) = astray ask full way (StageWhole n) (ReadsWhole ask.kind) _ (counter_by full ask (s1 n fields c long) x) refl (inr (inr (let h : 1 < 2 = omega arith in h))) refl
+  next_whole n loads s (counted fields c long) (Counter x) = astray ask full way (StageWhole n) (ReadsWhole ask.kind) _ (takes_counter full ask (s1 n fields c long) x) refl (inr (inr (let h : 1 < 2 = omega arith in h))) refl
 
   open_whole : (n : ℕ) (loads : List Load) (s : Scan) → StageWhole n loads s → (s.begun ≡ true) × (s.answer ≡ None)
   open_whole n loads s (looking fields) = (refl, refl)

@@ -3,3 +3,4 @@ pub mod Looks
 pub mod Scans
 pub mod Converts
 pub mod Reads
+pub mod Samples

@@ -131,10 +131,10 @@ abbrev pub counter_back : Bool → Ask → Scan → ℕ → Scan
 counter_back true ask s x = counts_back (nat_lt x ask.given) ask s x
 counter_back false ask s x = ends None s
 
-abbrev pub counter_by : Way → Ask → Scan → ℕ → Scan
-counter_by full ask s x = record s { begun = true; good = has_fields s; counters = s.counters ++ x ∷ []; answer = None }
-counter_by quick ask s x = ends None s
-counter_by past ask s x = counter_back (s.good && s.line && (length s.counters == 0)) ask s x
+abbrev pub takes_counter : Way → Ask → Scan → ℕ → Scan
+takes_counter full ask s x = record s { begun = true; good = has_fields s; counters = s.counters ++ x ∷ []; answer = None }
+takes_counter quick ask s x = ends None s
+takes_counter past ask s x = counter_back (s.good && s.line && (length s.counters == 0)) ask s x
 
 -- fields are loaded in their order, of the tick that is looked at
 abbrev pub field_on : Scan → ℕ → ℕ → ℕ → Scan
@@ -143,7 +143,7 @@ field_on s t f x = record s { begun = true; good = s.good && not s.line && (t ==
 abbrev pub after : Ask → Scan → Load → Scan
 after ask s (Turn x) = turned s.begun ask s x
 after ask s (Field t f x) = field_on s t f x
-after ask s (Counter x) = counter_by (way_of ask.kind) ask s x
+after ask s (Counter x) = takes_counter (way_of ask.kind) ask s x
 after ask s (Mark t x) = mark_by (way_of ask.kind) ask s t x
 
 abbrev pub run : Ask → Scan → List Load → Scan

@@ -5,6 +5,8 @@
 
 mod laws;
 mod loads;
+mod refusals;
 
 pub use laws::{full_reads_moved, full_reads_stood, loads_decide};
 pub use loads::{Ask, Load};
+pub use refusals::{conversions_go_down, fast_reads_look_at_the_mark, full_reads_load_all};

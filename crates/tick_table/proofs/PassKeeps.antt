@@ -14,6 +14,7 @@ use Rattle.tick_views.specs.declared.views.PenView.{PenView}
 use Rattle.tick_views.specs.declared.views.PassView.{PassView}
 use Rattle.tick_views.specs.declared.views.View.{View}
 use Rattle.tick_views.specs.declared.views.View.TheVariants.{Pen, Pass, Crank, Note, Spent}
+use Rattle.tick_views.specs.declared.views.CrankView.{CrankView}
 use Rattle.ff_hands.specs.Journals.{IsJournal}
 use Rattle.ff_hands.specs.Windups.{cold}
 use Rattle.hand_words.specs.Words.{pack, unpack}
@@ -24,9 +25,9 @@ use Rattle.clock_logs.specs.Legal.{Way, full, quick, past, way_of}
 use Rattle.tick_reads.specs.Ways.{needs_even}
 use Rattle.tick_reads.specs.Looks.{full_mark}
 use Rattle.tick_reads.specs.Scans.{Scan, has_fields}
-use Rattle.tick_table.specs.Rule.{turn_of, mark_at, field_at, marks_of, world_of, SlotIs, CounterStands, Stands, Tops, number_in, Numbers, Rule}
+use Rattle.tick_table.specs.Rule.{turn_of, mark_at, field_at, marks_of, world_of, SlotIs, AreBare, CounterStands, Stands, Tops, number_in, Numbers, Rule}
 use Rattle.tick_views.specs.Worlds.{Goes, AllBelow, World, FitsKept, FitsCall, FitsPass, Fits, top_tick, IsMark, or_else}
-use Rattle.tick_views.specs.Views.{new_pass, scan_of, turn_loaded, counter_loaded, call_begun, field_loaded, mark_loaded, on_pen, pass_made, pass_cut, noted_cut, crank_lent, crank_cut, kept_of, pass_taken, crank_taken, learned, taken}
+use Rattle.tick_views.specs.Views.{new_pass, scan_of, turn_loaded, counter_loaded, call_begun, field_loaded, mark_loaded, on_pen, pass_made, pass_cut, noted_cut, crank_lent, crank_first, crank_raised, crank_cut, kept_of, pass_taken, crank_taken, learned, taken}
 use Rattle.tick_table.specs.Steps.{IsSoundAt, LearnsTurn, LearnsAll, Opens, LoadsTurn, LoadsCounter, LoadsMark, LoadsField, Cranks, LoadsOwnTurn}
 use Rattle.tick_views.proofs.Grow.{at_end, in_list, grow}
 use Rattle.tick_table.proofs.PenKeeps.{St, pen_same, NotCrank, no_crank, tops_set, goes_same, slots_low, low_keeps_mark, or_else_up, grow_kept}
@@ -40,7 +41,7 @@ not_pen s r (suc id) v other at = omega arith
 pen_or_pass : (p : PenView) (v : PassView) → Pen p ≡ Pass v → ⊥
 pen_or_pass p v e = cc
 
-pen_or_crank : (p : PenView) (k : ℕ) → Pen p ≡ Crank k → ⊥
+pen_or_crank : (p : PenView) (k : CrankView) → Pen p ≡ Crank k → ⊥
 pen_or_crank p k e = cc
 
 pen_or_note : (p : PenView) (k : ℕ) → Pen p ≡ Note k → ⊥
@@ -273,6 +274,7 @@ restands words p p' n journal winding marked is-set stored loaded counters kept 
     started = λ a b. f.slots.started (sym marked ∙ a) (sym is-set ∙ b);
     finished = λ e. let d = f.slots.finished (sym is-set ∙ e) in (marked ∙ d.0, d.1);
     stored = λ e j y at. f.slots.stored (sym marked ∙ e) j y (subst (λ (l : List ℕ). get_elem? l j ≡ some y) stored at);
+    bare = subst (λ b. AreBare words (n + cond b 1 0)) (sym marked) f.slots.bare;
   };
   counter = record {
     small = f.counter.small;
@@ -320,19 +322,19 @@ cuts_note p s r at = pen_cuts s r p p (Note (length p.journal)) at (λ n crank f
 )) (λ n. numbers_snoc (set s.views 0 (Pen p)) (Note (length p.journal)) p.kept p.made refl (numbers_set s.views 0 (Pen p) (Pen p) at refl p.kept p.kept p.made p.made refl refl n))
 
 cuts_crank : (p : PenView) → p.out ≡ false → Splits Rule 0 (Pen p) (on_pen crank_lent (Pen p)) (crank_cut (Pen p))
-cuts_crank p in-hand s r at = pen_cuts s r p (crank_lent p) (Crank 0) at (λ n crank f tops. let goes = more_made s.words p n p.made (le_refl p.made) in let l : List View = set s.views 0 (Pen (crank_lent p)) in let home = tops.home in-hand in (
+cuts_crank p in-hand s r at = pen_cuts s r p (crank_lent p) (Crank crank_first) at (λ n crank f tops. let goes = more_made s.words p n p.made (le_refl p.made) in let l : List View = set s.views 0 (Pen (crank_lent p)) in let home = tops.home in-hand in (
   length l,
   goes,
   restands s.words p (crank_lent p) n refl refl refl refl refl refl refl f.kept f,
   record {
     home = λ e. absurd (true≢false e);
-    away = λ _. (0, at_last l (Crank 0) (length l) refl, omega arith);
+    away = λ _. (crank_first, at_last l (Crank crank_first) (length l) refl, omega arith);
     only = λ j k e. ⊎_elim
         (λ (was : get_elem? l j ≡ some (Crank k)). ⊎_elim (λ (x : (j ≡ 0) × (Pen (crank_lent p) ≡ Crank k)). absurd (pen_or_crank (crank_lent p) k x.1)) (λ (x : (j ≢ 0) × (get_elem? s.views j ≡ some (Crank k))). absurd (true≢false (sym (tops.only j k x.1).0 ∙ in-hand))) (at_set s.views 0 j (Pen (crank_lent p)) (Crank k) was))
-        (λ (new : (j ≡ length l) × (Crank 0 ≡ Crank k)). (refl, new.0)) (at_end l (Crank 0) (Crank k) j e);
+        (λ (new : (j ≡ length l) × (Crank crank_first ≡ Crank k)). (refl, new.0)) (at_end l (Crank crank_first) (Crank k) j e);
   },
   tt,
-)) (λ n. numbers_snoc (set s.views 0 (Pen (crank_lent p))) (Crank 0) p.kept p.made refl (numbers_set s.views 0 (Pen p) (Pen (crank_lent p)) at refl p.kept p.kept p.made p.made refl refl n))
+)) (λ n. numbers_snoc (set s.views 0 (Pen (crank_lent p))) (Crank crank_first) p.kept p.made refl (numbers_set s.views 0 (Pen p) (Pen (crank_lent p)) at refl p.kept p.kept p.made p.made refl refl n))
 
 takes_pass : (p : PenView) (other : ℕ) (v : PassView) → Joins Rule 0 (Pen p) other (Pass v) (taken (Pen p) (Pass v)) Spent
 takes_pass p other v s r at apart there' = let p' = pass_taken p v in let was : get_elem? s.views other ≡ some (Pass v) = sym (set_else s.views 0 other (Pen p') apart) ∙ there' in
@@ -343,10 +345,10 @@ takes_pass p other v s r at apart there' = let p' = pass_taken p v in let was : 
       tops_set (set s.views 0 (Pen p')) p' p' (get_or s.words 1 0) crank other (Pass v) Spent there' tt tt refl refl (tops_set s.views p p' (get_or s.words 1 0) crank 0 (Pen p) (Pen p') at tt tt refl refl tops),
     )) (λ n. numbers_kept (set s.views 0 (Pen p')) other v p.kept p.made there' (numbers_set s.views 0 (Pen p) (Pen p') at refl p.kept p.kept p.made p.made refl refl n))
 
-takes_crank : (p : PenView) (other k : ℕ) → Joins Rule 0 (Pen p) other (Crank k) (taken (Pen p) (Crank k)) Spent
-takes_crank p other k s r at apart there' = let p' = crank_taken p k in let was : get_elem? s.views other ≡ some (Crank k) = sym (set_else s.views 0 other (Pen p') apart) ∙ there' in
+takes_crank : (p : PenView) (other : ℕ) (k : CrankView) → Joins Rule 0 (Pen p) other (Crank k) (taken (Pen p) (Crank k)) Spent
+takes_crank p other k s r at apart there' = let p' = crank_taken p k.top in let was : get_elem? s.views other ≡ some (Crank k) = sym (set_else s.views 0 other (Pen p') apart) ∙ there' in
     pen_takes s r p p' other (Crank k) at apart was (λ n crank f tops fits. let o = tops.only other k was in let a = tops.away o.0 in let c : ℕ = get_or s.words 1 0 in
-    let same : Crank a.0 ≡ Crank k = some-injective _ _ (sym a.1 ∙ (ap (λ i. get_elem? s.views i) (sym o.1) ∙ was)) in let k-is : a.0 ≡ k = cc in let top = a.2 in (
+    let same : Crank a.0 ≡ Crank k = some-injective _ _ (sym a.1 ∙ (ap (λ i. get_elem? s.views i) (sym o.1) ∙ was)) in let k-is : a.0 ≡ k = cc in let top-is : a.0.top ≡ k.top = ap (λ (x : CrankView). x.top) k-is in let top = a.2 in (
       more_made s.words p n p.made (le_refl p.made),
       restands s.words p p' n refl refl refl refl refl refl refl f.kept f,
       record {
@@ -380,14 +382,14 @@ takes_note id v other k s r at apart there' = let v' = learned v k in let was : 
     views_step record { words = s.words; homes = s.homes; views = set s.views id (Pass v') } first s.words other (Note k) Spent refl far' there' tt tt refl tt
 
 -- the crank raises the counter
-cranks : (slots id k to : ℕ) → to < 2 ^ 62 → Allows Rule slots id (Crank k, []) 1 (λ x. max x to) (Cranks (step slots 1 to 0 none) (Crank k, []))
+cranks : (slots id : ℕ) (k : CrankView) (to : ℕ) → to < 2 ^ 62 → Allows Rule slots id (Crank k, []) 1 (λ x. max x to) (Cranks (step slots 1 to 0 none) (Crank k, []))
 cranks slots id k to few s r _ at _ = let c : ℕ = get_or s.words 1 0 in let c' : ℕ = max c to in let ws : List ℕ = set s.words 1 c' in let low : 1 < 2 = omega arith in let p = r.pen in let f = r.stands in let wide = f.wide in
     let is : get_or ws 1 0 ≡ c' = get_or-set_same s.words 1 c' 0 (omega arith) in let up : c ≤ c' = omega arith in let far = not_pen s r id (Crank k) (λ p. pen_or_crank p k) at in let here = in_list s.views id (Crank k) at in
     let old = λ (m : ℕ) (z : m < length p.journal) (e : marks_of ws m ≡ full_mark m). sym (low_keeps_mark s.words wide 1 m c' low) ∙ e in let small = f.counter.small in
     let goes : Goes (world_of s.words p r.last) (world_of ws p r.last) = goes_same p.journal (turn_of p r.last) (turn_of p r.last) (marks_of s.words) (marks_of ws) c (get_or ws 1 0) (or_else p.loaded c) (or_else p.loaded (get_or ws 1 0)) p.made p.made (le_refl (turn_of p r.last)) old
     (subst (λ y. c ≤ y) (sym is) up) (subst (λ y. or_else p.loaded c ≤ or_else p.loaded y) (sym is) (or_else_up p.loaded c c' up)) (le_refl p.made) in
-    let o = r.tops.only id k at in let a = r.tops.away o.0 in let same : Crank a.0 ≡ Crank k = some-injective _ _ (sym a.1 ∙ (ap (λ i. get_elem? s.views i) (sym o.1) ∙ at)) in let k-is : a.0 ≡ k = cc in let top = a.2 in let reached : k ≤ c = omega arith in
-    let w' : View = Crank (max k to) in (
+    let o = r.tops.only id k at in let a = r.tops.away o.0 in let same : Crank a.0 ≡ Crank k = some-injective _ _ (sym a.1 ∙ (ap (λ i. get_elem? s.views i) (sym o.1) ∙ at)) in let k-is : a.0 ≡ k = cc in let top-is : a.0.top ≡ k.top = ap (λ (x : CrankView). x.top) k-is in let top = a.2 in let reached : k.top ≤ c = omega arith in let k' : CrankView = crank_raised to c' k in
+    let w' : View = Crank k' in (
       w',
       keeps,
       tt,
@@ -409,7 +411,7 @@ cranks slots id k to few s r _ at _ = let c : ℕ = get_or s.words 1 0 in let c'
         };
         tops = subst (λ y. Tops (set s.views id w') p y id) (sym is) record {
           home = λ e. absurd (true≢false (sym o.0 ∙ e));
-          away = λ _. (max k to, set_here s.views id w' here, omega arith);
+          away = λ _. (k', set_here s.views id w' here, omega arith);
           only = λ j q e. ⊎_elim (λ (x : (j ≡ id) × (w' ≡ Crank q)). (o.0, x.0)) (λ (x : (j ≢ id) × (get_elem? s.views j ≡ some (Crank q))). let z = r.tops.only j q x.1 in (z.0, z.1 ∙ sym o.1)) (at_set s.views id j w' (Crank q) e);
         };
         numbers = numbers_set s.views id (Crank k) w' at refl p.kept p.kept p.made p.made refl refl r.numbers;
@@ -472,7 +474,7 @@ fields_at slots id m v tick k word is calling small t w = at_pass slots (λ n. n
 pub marks_at : (slots id : ℕ) (m : Me (Unit {0}) View) (v : PassView) (word : ℕ) → m ≡ (Pass v, []) → v.calling ≡ true → word ≡ mark_at ((scan_of v).tick) → Allows Rule slots id m word (λ n. n) (LoadsMark (step slots word 0 0 none) m)
 marks_at slots id m v word is calling w = at_pass slots (λ n. n) (λ u. LoadsMark (step slots u 0 0 none)) id m (Pass v) word (mark_at ((scan_of v).tick)) is w (marks slots id v calling)
 
-pub cranks_at : (slots id : ℕ) (m : Me (Unit {0}) View) (k to : ℕ) → m ≡ (Crank k, []) → to < 2 ^ 62 → Allows Rule slots id m 1 (λ x. max x to) (Cranks (step slots 1 to 0 none) m)
+pub cranks_at : (slots id : ℕ) (m : Me (Unit {0}) View) (k : CrankView) (to : ℕ) → m ≡ (Crank k, []) → to < 2 ^ 62 → Allows Rule slots id m 1 (λ x. max x to) (Cranks (step slots 1 to 0 none) m)
 cranks_at slots id m k to is few = at_pass slots (λ x. max x to) (λ u. Cranks (step slots u to 0 none)) id m (Crank k) 1 1 is refl (cranks slots id k to few)
 
 pub looks_at : (slots id : ℕ) (m : Me (Unit {0}) View) (p : PenView) → id ≡ 0 → m ≡ (Pen p, []) → Allows Rule slots id m 0 (λ n. n) (LoadsOwnTurn (step slots 0 0 0 none) m)
@@ -497,7 +499,7 @@ take_at id v u other w x is theirs = subst (λ (z : View × View). Joins Rule id
 pub takes_in_at : (id : ℕ) (v : View) (p : PenView) (other : ℕ) (w : View) (u : PassView) → id ≡ 0 → v ≡ Pen p → w ≡ Pass u → Joins Rule id v other w (taken v w) Spent
 takes_in_at id v p other w u z is theirs = subst (λ i. Joins Rule i v other w (taken v w) Spent) (sym z) (take_at 0 v (Pen p) other w (Pass u) is theirs (takes_pass p other u))
 
-pub takes_crank_at : (id : ℕ) (v : View) (p : PenView) (other : ℕ) (w : View) (k : ℕ) → id ≡ 0 → v ≡ Pen p → w ≡ Crank k → Joins Rule id v other w (taken v w) Spent
+pub takes_crank_at : (id : ℕ) (v : View) (p : PenView) (other : ℕ) (w : View) (k : CrankView) → id ≡ 0 → v ≡ Pen p → w ≡ Crank k → Joins Rule id v other w (taken v w) Spent
 takes_crank_at id v p other w k z is theirs = subst (λ i. Joins Rule i v other w (taken v w) Spent) (sym z) (take_at 0 v (Pen p) other w (Crank k) is theirs (takes_crank p other k))
 
 pub takes_note_at : (id : ℕ) (v : View) (u : PassView) (other : ℕ) (w : View) (k : ℕ) → v ≡ Pass u → w ≡ Note k → Joins Rule id v other w (taken v w) Spent

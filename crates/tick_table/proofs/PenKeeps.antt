@@ -1,11 +1,12 @@
 -- Each step of the pen keeps the rule.
-use Rattle.std.proofs.Common.{◌≡◌, ℕ, zero, suc, ◌+◌, ◌-◌, ◌*◌, ◌%◌, ◌^◌, ◌<◌, ◌≤◌, ◌≢◌, max, Bool, true, false, true≢false, cond, List, [], ◌∷◌, ◌++◌, length, get_or, set, Some, None, sym, refl, ap, ◌∙◌, subst, inl, inr, ⊎_elim, arith, lit<, le_refl, le_trans, length-append, length-set, get_or-set_same, get_or-set_other, slice_get}
+use Rattle.std.proofs.Common.{◌≡◌, ℕ, zero, suc, ◌+◌, ◌-◌, ◌*◌, ◌%◌, ◌^◌, ◌<◌, ◌≤◌, ◌≢◌, max, Bool, true, false, true≢false, ◌&&◌, cond, List, [], ◌∷◌, ◌++◌, length, drop, get_or, set, Some, None, sym, refl, ap, ◌∙◌, subst, inl, inr, ⊎_elim, arith, lit<, le_refl, le_trans, length-append, length-set, get_or-set_same, get_or-set_other, slice_get}
 use Rattle.std.specs.Prelude.{Option}
 use mathlib.Core.Option.{none, some, some-injective, some-ne-none}
 use mathlib.Core.Logic.{dite}
 use native.Mathlib.Decide.{ℕ_discrete}
 use lib.ListN.{get_elem?}
 use lib.Seq.{set-get_or}
+use Rattle.std.proofs.lemmas.List.{get_or-drop}
 use Rattle.atomic_table.specs.Table.{State, Me, step, keeps, stepped, Allows, opening}
 use Rattle.atomic_table.proofs.Lists.{at_set, set_here, set_else, at_last, at_snoc, at_longer}
 use Rattle.ff_hands.specs.declared.hands.Hands.{Hands}
@@ -13,6 +14,7 @@ use Rattle.clock_logs.specs.declared.noted.Kept.{Kept}
 use Rattle.tick_views.specs.declared.views.PenView.{PenView}
 use Rattle.tick_views.specs.declared.views.View.{View}
 use Rattle.tick_views.specs.declared.views.View.TheVariants.{Pen, Pass, Crank, Note, Spent}
+use Rattle.tick_views.specs.declared.views.CrankView.{CrankView}
 use Rattle.ff_hands.specs.Windups.{cold}
 use Rattle.ff_hands.specs.Journals.{Follows, IsJournal}
 use Rattle.hand_words.specs.Words.{pack, unpack}
@@ -26,7 +28,7 @@ use Rattle.tick_table.proofs.Lists.{Some_same, to_some, to_Some}
 use Rattle.std.proofs.lemmas.Option.{slice_get-get_or}
 use Rattle.tick_table.proofs.Numbering.{numbers_set}
 use Rattle.tick_reads.specs.Looks.{full_mark}
-use Rattle.tick_table.specs.Rule.{turn_of, mark_at, field_at, marks_of, world_of, SlotIs, SlotsStand, CounterStands, Stands, Tops, number_in, Numbers, Rule}
+use Rattle.tick_table.specs.Rule.{turn_of, mark_at, field_at, marks_of, world_of, SlotIs, AreBare, SlotsStand, CounterStands, Stands, Tops, number_in, Numbers, Rule}
 use Rattle.tick_views.specs.Worlds.{Goes, World, AllBelow, FitsKept, Fits, IsMark, or_else}
 use Rattle.tick_views.specs.Views.{pen_first, turn_started, mark_started, field_stored, mark_set, turn_closed, loaded_if, pen_counted, top_raised}
 use Rattle.tick_table.specs.Steps.{Starts, StartsMark, Stores, SetsMark, Closes, LearnsCounter, LoadsOwnCounter, Raises}
@@ -42,13 +44,13 @@ pub one_last : (n m : ℕ) → n + 1 ≡ m + 1 → n ≡ m
 one_last n m e = omega arith
 
 abbrev pub NotCrank : View → Type 0
-NotCrank (Crank top) = ⊥
+NotCrank (Crank k) = ⊥
 NotCrank (Pen p) = Unit {0}
 NotCrank (Pass v) = Unit {0}
 NotCrank (Note seen) = Unit {0}
 NotCrank Spent = Unit {0}
 
-pub no_crank : (v : View) (top : ℕ) → NotCrank v → v ≡ Crank top → ⊥
+pub no_crank : (v : View) (top : CrankView) → NotCrank v → v ≡ Crank top → ⊥
 no_crank v top n e = subst NotCrank e n
 
 -- a step of a seat that is not the crank's leaves the tops
@@ -58,7 +60,7 @@ tops_set views p p' c crank id v w at old new out top t = record {
   away = λ e. let a = t.away (sym out ∙ e) in (
     a.0,
     set_else views id crank w (λ same. no_crank v a.0 old (some-injective _ _ (sym at ∙ (subst (λ i. get_elem? views i ≡ some (Crank a.0)) same a.1)))) ∙ a.1,
-    a.2 ∙ ap (λ k. max k a.0) (sym top),
+    a.2 ∙ ap (λ k. max k a.0.top) (sym top),
   );
   only = λ j k e. ⊎_elim (λ (x : (j ≡ id) × (w ≡ Crank k)). absurd (no_crank w k new x.1)) (λ (x : (j ≢ id) × (get_elem? views j ≡ some (Crank k))). let o = t.only j k x.1 in (out ∙ o.0, o.1)) (at_set views id j w (Crank k) e);
 }
@@ -158,6 +160,14 @@ module _ (words : List ℕ) (wide : length words ≡ 162) where
   low_keeps_field : (i m f x : ℕ) → i < 2 → get_or (set words i x) (field_at m f) 0 ≡ get_or words (field_at m f) 0
   low_keeps_field i m f x low = get_or-set_other words i (field_at m f) x 0 (λ e. omega arith)
 
+-- the slots without a tick, after a store that leaves them
+bare_stays : (words words' : List ℕ) (t t' : ℕ) → t ≤ t' → ((m : ℕ) → t' < m → m < 10 → marks_of words' m ≡ marks_of words m)
+    → ((m f : ℕ) → t' < m → m < 10 → f < 15 → get_or words' (field_at m f) 0 ≡ get_or words (field_at m f) 0) → AreBare words t → AreBare words' t'
+bare_stays words words' t t' up mark field b = record {
+  marks = λ m above low. mark m above low ∙ b.marks m (omega arith) low;
+  fields = λ m f above low small. field m f above low small ∙ b.fields m f (omega arith) low small;
+}
+
 two_fields : (h : Hands) (f x : ℕ) → get_elem? (pack h) f ≡ some x → f < 15
 two_fields h f x e = let p = in_list (pack h) f x e in omega (arith, length-pack h)
 
@@ -181,6 +191,10 @@ unmarked : (marked winding : Bool) → (marked ≡ true → winding ≡ true) �
 unmarked true winding o e = absurd (true≢false (sym (o refl) ∙ e))
 unmarked false winding o e = refl
 
+-- the slots without a tick, after a store at the turn word or the counter
+bare_low : (words : List ℕ) → length words ≡ 162 → (t t' i x : ℕ) → i < 2 → t ≤ t' → AreBare words t → AreBare (set words i x) t'
+bare_low words wide t t' i x low up = bare_stays words (set words i x) t t' up (λ m _ _. low_keeps_mark words wide i m x low) (λ m g _ _ _. low_keeps_field words wide i m g x low)
+
 -- the slots after a store at the turn word or the counter, by which the pen's view of the slots stays
 pub slots_low : (words : List ℕ) (p p' : PenView) (n i x : ℕ) → length words ≡ 162 → i < 2 → p'.journal ≡ p.journal → p'.marked ≡ p.marked → p'.set ≡ p.set → p'.winding ≡ p.winding → p'.stored ≡ p.stored → SlotsStand words p n → SlotsStand (set words i x) p' n
 slots_low words p p' n i x wide low journal marked is-set winding stored f = record {
@@ -190,6 +204,7 @@ slots_low words p p' n i x wide low journal marked is-set winding stored f = rec
   started = λ a b. low_keeps_mark words wide i (n + 1) x low ∙ f.started (sym marked ∙ a) (sym is-set ∙ b);
   finished = λ e. let d = f.finished (sym is-set ∙ e) in (marked ∙ d.0, low_keeps_mark words wide i (n + 1) x low ∙ d.1);
   stored = λ e j y at. low_keeps_field words wide i (n + 1) j x low ∙ f.stored (sym marked ∙ e) j y (subst (λ (l : List ℕ). get_elem? l j ≡ some y) stored at);
+  bare = subst (λ b. AreBare (set words i x) (n + cond b 1 0)) (sym marked) (bare_low words wide (n + cond p.marked 1 0) (n + cond p.marked 1 0) i x low (le_refl (n + cond p.marked 1 0)) f.bare);
 }
 
 starts : (slots : ℕ) (p : PenView) (n : ℕ) → p.winding ≡ false → length p.journal ≡ n + 1 → Allows Rule slots 0 (Pen p, []) 0 (λ _. 2 * n + 1) (λ _. Starts (step slots 0 (2 * n + 1) 0 none) (Pen p, []) (2 * n + 1))
@@ -215,6 +230,7 @@ starts slots p n closed long s r _ at _ = (
             started = λ e. absurd (true≢false (sym e));
             finished = λ e. absurd (true≢false (sym e));
             stored = λ e. absurd (true≢false (sym e));
+            bare = bare_low s.words wide (k + cond p.marked 1 0) (n + 0) 0 (2 * n + 1) (omega arith) (let d : ℕ = cond p.marked 1 0 in let none-yet : d ≡ 0 = unmarked p.marked p.winding f.slots.opened closed in omega arith) f.slots.bare;
           };
           counter = subst (λ y. CounterStands y (turn_started p)) (sym c') record { small = f.counter.small; ticks = λ m h e. le_trans (f.counter.ticks m h e) f.counter.bound; bound = le_refl c; counted = f.counter.counted; closed = λ _. refl };
           legal = f.legal;
@@ -285,6 +301,13 @@ module _ (words : List ℕ) (p : PenView) (n x : ℕ) (f : Stands words p n) (is
       (λ here. let v = mark_here words f.wide m (n + 1) x here in ⊎_elim (λ (odd : x ≡ 2 * (n + 1) + 1). absurd (omega arith)) (λ (even : x ≡ 2 * (n + 1) + 2). absurd (omega arith)) is)
       (λ ne. sym (mark_far words f.wide m (n + 1) x ne) ∙ e)
 
+  remarked_bare : AreBare ws (n + 1)
+  remarked_bare = bare_stays words ws (n + cond p.marked 1 0) (n + 1) (one_more p.marked) (λ m above low. mark_far words f.wide m (n + 1) x (λ e. omega arith)) (λ m g _ _ small. mark_keeps_field words f.wide m g (n + 1) x small) f.slots.bare
+    where
+      one_more : (b : Bool) → n + cond b 1 0 ≤ n + 1
+      one_more true = le_refl (n + 1)
+      one_more false = omega arith
+
 pub same_slot : (words : List ℕ) (m a : ℕ) → m % 10 ≡ a % 10 → marks_of words m ≡ marks_of words a
 same_slot words m a e = ap (λ k. get_or words (2 + 16 * k) 0) e
 
@@ -302,6 +325,7 @@ marks slots p n opened unmarked long s r _ at _ = let x : ℕ = 2 * (n + 1) + 1 
       started = λ _ _. mark_here s.words f.wide (n + 1) (n + 1) x refl;
       finished = λ e. absurd (true≢false (sym e));
       stored = λ _ i y e. absurd (some-ne-none y (sym e));
+      bare = remarked_bare s.words p n x f (inl refl);
     },
   )),
   refl,
@@ -321,6 +345,7 @@ sets slots p n opened marked whole long s r _ at _ = let x : ℕ = full_mark (n 
       started = λ _ e. absurd (true≢false e);
       finished = λ _. (marked, mark_here s.words f.wide (n + 1) (n + 1) x refl);
       stored = λ _ i y e. let small : i < 15 = subst (λ j. i < j) whole (in_list p.stored i y e) in mark_keeps_field s.words f.wide (n + 1) i (n + 1) x small ∙ f.slots.stored marked i y e;
+      bare = subst (λ b. AreBare (set s.words (mark_at (n + 1)) x) (n + cond b 1 0)) (sym marked) (remarked_bare s.words p n x f (inr refl));
     },
   )),
   refl,
@@ -344,6 +369,10 @@ module _ (words : List ℕ) (p : PenView) (n g x : ℕ) (f : Stands words p n) (
   stored_slot m h at (no ne) = let t = f.slots.slots m h at in
       slot_stays words (set words (field_at (n + 1) g) x) n n p.marked p.marked m h t (field_keeps_mark words f.wide m (n + 1) g x small) (λ i small'. field_far words f.wide m i (n + 1) g x ne small small') t.top t.whole
 
+  stored_bare : AreBare (set words (field_at (n + 1) g) x) (n + cond p.marked 1 0)
+  stored_bare = let d : ℕ = cond p.marked 1 0 in let one : d ≡ 1 = ap (λ b. cond b 1 0) marked in bare_stays words (set words (field_at (n + 1) g) x) (n + cond p.marked 1 0) (n + cond p.marked 1 0) (le_refl (n + cond p.marked 1 0))
+      (λ m _ _. field_keeps_mark words f.wide m (n + 1) g x small) (λ m i above low small'. field_far words f.wide m i (n + 1) g x (λ e. omega arith) small small') f.slots.bare
+
 stored_more : (words stored : List ℕ) (n x : ℕ) → length words ≡ 162 → length stored < 15 → ((i y : ℕ) → get_elem? stored i ≡ some y → get_or words (field_at (n + 1) i) 0 ≡ y)
     → (i y : ℕ) → get_elem? (stored ++ x ∷ []) i ≡ some y → get_or (set words (field_at (n + 1) (length stored)) x) (field_at (n + 1) i) 0 ≡ y
 stored_more words stored n x wide small before i y e = ⊎_elim
@@ -366,6 +395,7 @@ stores slots p n x opened marked unset small long s r _ at _ = let g : ℕ = len
       started = λ a b. keeps_mark (n + 1) ∙ f.slots.started a b;
       finished = λ e. absurd (true≢false (sym e ∙ unset));
       stored = λ a i y e. stored_more s.words p.stored n x wide small (f.slots.stored a) i y e;
+      bare = stored_bare s.words p n g x f marked unset small;
     },
   )),
   refl,
@@ -422,6 +452,7 @@ closes slots p n h opened is-set long room stored ranges loaded next s r _ at _ 
                 started = λ e. absurd (true≢false (sym e));
                 finished = λ e. absurd (true≢false (sym e));
                 stored = λ e. absurd (true≢false (sym e));
+                bare = bare_low s.words wide (n + cond p.marked 1 0) (n + 1 + 0) 0 (2 * n + 2) low (let d : ℕ = cond p.marked 1 0 in let one : d ≡ 1 = ap (λ b. cond b 1 0) done.0 in omega arith) f'.slots.bare;
               };
               counter = subst (λ y. CounterStands y (turn_closed p)) (sym c') record {
                 small = f.counter.small;
@@ -477,7 +508,7 @@ counts slots p n long s r _ at _ = let c : ℕ = get_or s.words 1 0 in let p' = 
               long = f.long;
               few = f.few;
               turn = f.turn;
-              slots = record { slots = f.slots.slots; opened = f.slots.opened; started = f.slots.started; finished = f.slots.finished; stored = f.slots.stored };
+              slots = record { slots = f.slots.slots; opened = f.slots.opened; started = f.slots.started; finished = f.slots.finished; stored = f.slots.stored; bare = f.slots.bare };
               counter = record {
                 small = f.counter.small;
                 ticks = λ m h e. subst (λ y. h.count ≤ y) (sym (bound_after p.winding c)) (le_trans (f.counter.ticks m h e) f.counter.bound);
@@ -496,7 +527,7 @@ counts slots p n long s r _ at _ = let c : ℕ = get_or s.words 1 0 in let p' = 
 
 -- the pen raises the counter
 raises : (slots : ℕ) (p : PenView) (n to : ℕ) → length p.journal ≡ n + 1 → to < 2 ^ 62 → Allows Rule slots 0 (Pen p, []) 1 (λ x. max x to) (Raises (step slots 1 to 0 none) (Pen p, []))
-raises slots p n to long few s r _ at _ = let c : ℕ = get_or s.words 1 0 in let c' : ℕ = max c to in let p' = top_raised to p in let ws : List ℕ = set s.words 1 c' in let low : 1 < 2 = omega arith in (
+raises slots p n to long few s r _ at _ = let c : ℕ = get_or s.words 1 0 in let c' : ℕ = max c to in let p' = top_raised to c' p in let ws : List ℕ = set s.words 1 c' in let low : 1 < 2 = omega arith in (
   Pen p',
   keeps,
   tt,
@@ -532,11 +563,11 @@ raises slots p n to long few s r _ at _ = let c : ℕ = get_or s.words 1 0 in le
     bound_up None c c' up b = le_refl c'
     bound_up (Some x) c c' up b = le_trans b up
 
-    raised_tops : (views : List View) (p : PenView) (c crank to : ℕ) → get_elem? views 0 ≡ some (Pen p) → Tops views p c crank → Tops (set views 0 (Pen (top_raised to p))) (top_raised to p) (max c to) crank
+    raised_tops : (views : List View) (p : PenView) (c crank to : ℕ) → get_elem? views 0 ≡ some (Pen p) → Tops views p c crank → Tops (set views 0 (Pen (top_raised to (max c to) p))) (top_raised to (max c to) p) (max c to) crank
     raised_tops views p c crank to at t = record {
       home = λ e. ap (λ y. max y to) (t.home e);
-      away = λ e. let a = t.away e in let h = a.2 in (a.0, set_else views 0 crank (Pen (top_raised to p)) (λ z. no_crank (Pen p) a.0 tt (some-injective _ _ (sym at ∙ subst (λ i. get_elem? views i ≡ some (Crank a.0)) z a.1))) ∙ a.1, omega arith);
-      only = λ j k e. ⊎_elim (λ (x : (j ≡ 0) × (Pen (top_raised to p) ≡ Crank k)). absurd (no_crank (Pen (top_raised to p)) k tt x.1)) (λ (x : (j ≢ 0) × (get_elem? views j ≡ some (Crank k))). t.only j k x.1) (at_set views 0 j (Pen (top_raised to p)) (Crank k) e);
+      away = λ e. let a = t.away e in let h = a.2 in (a.0, set_else views 0 crank (Pen (top_raised to (max c to) p)) (λ z. no_crank (Pen p) a.0 tt (some-injective _ _ (sym at ∙ subst (λ i. get_elem? views i ≡ some (Crank a.0)) z a.1))) ∙ a.1, omega arith);
+      only = λ j k e. ⊎_elim (λ (x : (j ≡ 0) × (Pen (top_raised to (max c to) p) ≡ Crank k)). absurd (no_crank (Pen (top_raised to (max c to) p)) k tt x.1)) (λ (x : (j ≢ 0) × (get_elem? views j ≡ some (Crank k))). t.only j k x.1) (at_set views 0 j (Pen (top_raised to (max c to) p)) (Crank k) e);
     }
 
 -- a move of the pen, at a seat that is known to be the pen's
@@ -604,6 +635,31 @@ cold_words (suc (suc (suc (suc (suc (suc (suc (suc (suc (suc (suc (suc (suc zero
 cold_words (suc (suc (suc (suc (suc (suc (suc (suc (suc (suc (suc (suc (suc (suc zero)))))))))))))) x h e = some-injective 261 x e
 cold_words (suc (suc (suc (suc (suc (suc (suc (suc (suc (suc (suc (suc (suc (suc (suc f))))))))))))))) x h e = absurd (omega arith)
 
+-- behind the first slot nothing stands
+abbrev is_zero : ℕ → Bool
+is_zero zero = true
+is_zero (suc x) = false
+
+abbrev all_zero : List ℕ → Bool
+all_zero [] = true
+all_zero (x ∷ xs) = is_zero x && all_zero xs
+
+zero_at : (xs : List ℕ) → all_zero xs ≡ true → (i : ℕ) → get_or xs i 0 ≡ 0
+zero_at [] e i = refl
+zero_at (x ∷ xs) e zero = first x (all_zero xs) e
+  where
+    first : (x : ℕ) (b : Bool) → (is_zero x && b) ≡ true → x ≡ 0
+    first zero b e = refl
+    first (suc x) b e = absurd (true≢false (sym e))
+zero_at (x ∷ xs) e (suc i) = zero_at xs (rest (is_zero x) (all_zero xs) e) i
+  where
+    rest : (a b : Bool) → (a && b) ≡ true → b ≡ true
+    rest true b e = e
+    rest false b e = absurd (true≢false (sym e))
+
+nothing_at : (i : ℕ) → 18 ≤ i → get_or first_words i 0 ≡ 0
+nothing_at i above = let far : 18 + (i - 18) ≡ i = omega arith in ap (λ k. get_or first_words k 0) (sym far) ∙ (sym (get_or-drop 18 first_words (i - 18) 0) ∙ zero_at (drop 18 first_words) refl (i - 18))
+
 cold_back : unpack (pack cold) ≡ cold
 unfolding pack unpack
 cold_back = refl
@@ -625,6 +681,7 @@ begins = record {
       started = λ e. absurd (true≢false (sym e));
       finished = λ e. absurd (true≢false (sym e));
       stored = λ e. absurd (true≢false (sym e));
+      bare = record { marks = λ m above low. nothing_at (mark_at m) (omega arith); fields = λ m f above low small. nothing_at (field_at m f) (omega arith) };
     };
     counter = record { small = lit< tt; ticks = λ m h e. first_count m h e; bound = le_refl 0; counted = λ i x e. absurd (some-ne-none x (sym e)); closed = λ _. refl };
     legal = record { first = refl; next = λ m g x a b. absurd (alone_at m x (to_some (cold ∷ []) (m + 1) x b)) };
@@ -654,7 +711,7 @@ begins = record {
     first_count zero h e = subst (λ (g : Hands). g.count ≤ 0) (some-injective cold h e) (le_refl 0)
     first_count (suc m) h e = absurd (some-ne-none h (sym e))
 
-    alone_crank : (j k : ℕ) → get_elem? (Pen pen_first ∷ []) j ≡ some (Crank k) → ⊥
+    alone_crank : (j : ℕ) (k : CrankView) → get_elem? (Pen pen_first ∷ []) j ≡ some (Crank k) → ⊥
     alone_crank zero k e = no_crank (Pen pen_first) k tt (some-injective _ _ e)
     alone_crank (suc j) k e = some-ne-none (Crank k) (sym e)
 

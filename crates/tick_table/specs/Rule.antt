@@ -8,6 +8,7 @@ use Rattle.ff_hands.specs.declared.hands.Hands.{Hands}
 use Rattle.hand_words.specs.Words.{pack, unpack}
 use Rattle.tick_reads.specs.Looks.{full_mark}
 use Rattle.clock_logs.specs.declared.noted.Kept.{Kept}
+use Rattle.tick_views.specs.declared.views.CrankView.{CrankView}
 use Rattle.tick_views.specs.declared.views.PenView.{PenView}
 use Rattle.tick_views.specs.declared.views.View.{View}
 use Rattle.tick_views.specs.declared.views.View.TheVariants.{Pen, Pass, Crank, Note, Spent}
@@ -42,6 +43,11 @@ pub record SlotIs (words : List ℕ) (n : ℕ) (marked : Bool) (m : ℕ) (h : Ha
   pub whole : k ≤ n → marks_of words m ≡ full_mark k
   pub fields : k ≡ m → (f x : ℕ) → get_elem? (pack h) f ≡ some x → slice_index words (field_at m f) ≡ x
 
+-- the slots without a tick, those above the tick that was started last: each has the mark 0, and fields that are 0
+pub record AreBare (words : List ℕ) (started : ℕ) : Type 0 where
+  pub marks : (m : ℕ) → started < m → m < 10 → marks_of words m ≡ 0
+  pub fields : (m f : ℕ) → started < m → m < 10 → f < 15 → slice_index words (field_at m f) ≡ 0
+
 -- the slots stand for the journal, whose last tick is n
 pub record SlotsStand (words : List ℕ) (p : PenView) (n : ℕ) : Type 0 where
   pub slots : (m : ℕ) (h : Hands) → get_elem? p.journal m ≡ some h → SlotIs words n p.marked m h
@@ -49,6 +55,7 @@ pub record SlotsStand (words : List ℕ) (p : PenView) (n : ℕ) : Type 0 where
   pub started : p.marked ≡ true → p.set ≡ false → marks_of words (n + 1) ≡ 2 * (n + 1) + 1
   pub finished : p.set ≡ true → (p.marked ≡ true) × (marks_of words (n + 1) ≡ full_mark (n + 1))
   pub stored : p.marked ≡ true → (i x : ℕ) → get_elem? p.stored i ≡ some x → slice_index words (field_at (n + 1) i) ≡ x
+  pub bare : AreBare words (n + cond p.marked 1 0)
 
 -- the counter is past each tick, and so is what the open windup loaded
 pub record CounterStands (c : ℕ) (p : PenView) : Type 0 where
@@ -72,8 +79,8 @@ pub record Stands (words : List ℕ) (p : PenView) (n : ℕ) : Type 0 where
 -- the counter is the greater of the pen's top and the crank's. There is at most one crank, and one only where the pen knows of it
 pub record Tops (views : List View) (p : PenView) (c crank : ℕ) : Type 0 where
   pub home : p.out ≡ false → c ≡ p.top
-  pub away : p.out ≡ true → (top : ℕ) × (get_elem? views crank ≡ some (Crank top)) × (c ≡ max p.top top)
-  pub only : (j top : ℕ) → get_elem? views j ≡ some (Crank top) → (p.out ≡ true) × (j ≡ crank)
+  pub away : p.out ≡ true → (k : CrankView) × (get_elem? views crank ≡ some (Crank k)) × (c ≡ max p.top k.top)
+  pub only : (j : ℕ) (k : CrankView) → get_elem? views j ≡ some (Crank k) → (p.out ≡ true) × (j ≡ crank)
 
 -- the number of a pass's view
 abbrev pub number_in : View → Option ℕ

@@ -19,8 +19,9 @@ mod tests;
 
 pub use crank::CrankSeat;
 pub use hand_words::{FIELDS, pack, unpack};
-pub use laws::ticks_keep_entries;
+pub use laws::{ticks_keep_entries, words_stand_in_their_places};
 pub use note::NoteSeat;
 pub use pass::PassSeat;
 pub use pen::PenSeat;
-pub use share::Share;
+pub use rule::Ticks;
+pub use share::{Share, Words};

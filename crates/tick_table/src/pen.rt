@@ -52,7 +52,7 @@ impl Model for PenSeat {
 
 // The words at the start: the turn word and the counter are 0, and slot 0 has the full mark of tick 0
 // and the cold hands, whose packed word is 261.
-const FIRST: [u64; 162] = [
+pub(crate) const FIRST: [u64; 162] = [
     0, 0, 2, 0, 0, 0, 0, 0, 0, 0, 0, 0, 0, 0, 0, 0, 0, 261, 0, 0, 0, 0, 0, 0, 0, 0, 0, 0, 0, 0, 0,
     0, 0, 0, 0, 0, 0, 0, 0, 0, 0, 0, 0, 0, 0, 0, 0, 0, 0, 0, 0, 0, 0, 0, 0, 0, 0, 0, 0, 0, 0, 0, 0,
     0, 0, 0, 0, 0, 0, 0, 0, 0, 0, 0, 0, 0, 0, 0, 0, 0, 0, 0, 0, 0, 0, 0, 0, 0, 0, 0, 0, 0, 0, 0, 0,
@@ -78,6 +78,7 @@ impl PenSeat {
     }
 
     /// Opens the turn word. The journal has fewer than 2^62 ticks.
+    #[inline(always)]
     pub fn start_turn(&mut self)
         requires closed { self.old.view.winding ≡ false }
         requires room { length self.old.view.journal < 2 ^ 62 }
@@ -91,6 +92,7 @@ impl PenSeat {
     }
 
     /// Marks the slot of tick `tick`, which is the next one, as being written.
+    #[inline(always)]
     pub fn start_mark(&mut self, tick: u64)
         requires winding { (self.old.view.winding ≡ true) × (self.old.view.marked ≡ false) }
         requires next { tick ≡ length self.old.view.journal }
@@ -105,6 +107,7 @@ impl PenSeat {
 
     /// Stores field `field` of tick `tick`, which is the next one. The fields are stored in their
     /// order, from 0 to 14.
+    #[inline(always)]
     pub fn store_field(&mut self, tick: u64, field: u32, word: u64)
         requires winding { (self.old.view.marked ≡ true) × (self.old.view.set ≡ false) }
         requires open { self.old.view.winding ≡ true }
@@ -120,6 +123,7 @@ impl PenSeat {
     }
 
     /// Marks the slot of tick `tick`, which is the next one, as whole.
+    #[inline(always)]
     pub fn set_mark(&mut self, tick: u64)
         requires winding { (self.old.view.winding ≡ true) × (self.old.view.marked ≡ true) }
         requires whole { length self.old.view.stored ≡ 15 }
@@ -135,6 +139,7 @@ impl PenSeat {
 
     /// Closes the turn word, by which the tick is published. The hands are what a windup of the newest
     /// ones makes at the counter that was loaded, and the stored words are theirs.
+    #[inline(always)]
     pub fn close_turn(&mut self, h: &Hands)
         requires winding { (self.old.view.winding ≡ true) × (self.old.view.set ≡ true) }
         requires stored { self.old.view.stored ≡ pack h.now }
@@ -163,6 +168,7 @@ impl PenSeat {
     }
 
     /// Loads the counter. While a windup is open, it is the count of its tick.
+    #[inline(always)]
     pub fn load_counter(&mut self) -> u64
         ensures table { self.new.table ≡ self.old.table }
         ensures view { self.new.view ≡ pen_counted result self.old.view }
@@ -172,11 +178,12 @@ impl PenSeat {
     }
 
     /// Raises the counter to a count below 2^62, where it is not past it, by one step that takes the
-    /// greater. The answer is the counter then.
+    /// greater. The answer is the counter as that step left it.
+    #[inline(always)]
     pub fn raise_counter(&mut self, to: u64) -> u64
         requires { to < 2 ^ 62 }
         ensures table { self.new.table ≡ self.old.table }
-        ensures view { self.new.view ≡ top_raised to self.old.view }
+        ensures view { self.new.view ≡ top_raised to result self.old.view }
         ensures learns { LearnsCounter self.new.view result }
     {
         let old = self.table.shared.fetch_max::<Raise>(&mut self.seat, 1, to);
@@ -201,17 +208,15 @@ impl PenSeat {
         NoteSeat { seat }
     }
 
-    /// A new pass, with the next number, by a share of this table. It has seen all ticks so far.
-    pub fn split_pass(&mut self, share: Share) -> PassSeat
-        requires { share ≡ self.old.table }
+    /// A new pass, with the next number. It has seen all ticks so far.
+    pub fn split_pass(&mut self) -> PassSeat
         ensures table { self.new.table ≡ self.old.table }
         ensures view { self.new.view ≡ pass_made self.old.view }
         ensures same { result.table ≡ self.old.table }
         ensures pass { result.view ≡ new_pass self.old.view.made (length self.old.view.journal) }
     {
-        let Share { table } = share;
         let seat = self.table.shared.split_seat::<CutPass>(&mut self.seat);
-        PassSeat { table, seat }
+        PassSeat { seat }
     }
 
     /// Takes a pass of this table in, and keeps what it was answered.
@@ -220,7 +225,7 @@ impl PenSeat {
         ensures table { self.new.table ≡ self.old.table }
         ensures view { self.new.view ≡ pass_taken self.old.view pass.view }
     {
-        let PassSeat { table: _, seat } = pass;
+        let PassSeat { seat } = pass;
         self.table
             .shared
             .join_seat::<TakePass>(&mut self.seat, seat);
@@ -231,7 +236,7 @@ impl PenSeat {
         requires home { self.old.view.out ≡ false }
         ensures table { self.new.table ≡ self.old.table }
         ensures view { self.new.view ≡ crank_lent self.old.view }
-        ensures crank { (result.table ≡ self.old.table) × (result.top ≡ 0) }
+        ensures crank { (result.table ≡ self.old.table) × (result.top ≡ 0) × (result.met ≡ []) }
     {
         let Some(share) = self.spare.take() else {
             unreachable!()

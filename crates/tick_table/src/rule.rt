@@ -8,7 +8,7 @@ use std::marker::{Brand, PhantomData};
 use tick_views::View;
 
 /// The rule: the words stand for what the pen knows, and each other seat's view fits.
-pub(crate) struct Ticks;
+pub struct Ticks;
 
 impl TableRule<(), View, ()> for Ticks {
     ghost use Rattle.tick_table.specs.Rule.{Rule};

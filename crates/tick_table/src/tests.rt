@@ -6,7 +6,8 @@ ghost use Rattle.clock_lines.specs.declared.readings.Kind.TheVariants.{Abs};
 ghost use Rattle.ff_hands.specs.Journals.{IsSound};
 ghost use Rattle.tick_views.specs.Views.{noted, scan_of};
 
-use crate::{FIELDS, PassSeat, PenSeat, pack, unpack};
+use crate::pen::FIRST;
+use crate::{FIELDS, PassSeat, PenSeat, Words, pack, unpack};
 use clock_lines::Kind;
 use ff_grain::Bintime;
 use ff_hands::{
@@ -61,7 +62,8 @@ fn wind_up(pen: &mut PenSeat, tick: u64, last: &Hands, order: &Order) -> Result<
     Ok(hands)
 }
 
-fn load_fields(pass: &mut PassSeat, tick: u64) -> [u64; 15]
+fn load_fields(words: &Words, pass: &mut PassSeat, tick: u64) -> [u64; 15]
+    requires words { words.now.shared.table_id ≡ pass.old.table }
     requires calling { pass.old.view.calling ≡ true }
     requires tick { tick ≡ (scan_of pass.old.view).tick }
     ensures calling { pass.new.view.calling ≡ true }
@@ -70,50 +72,72 @@ fn load_fields(pass: &mut PassSeat, tick: u64) -> [u64; 15]
 {
     let mut fields = [0; FIELDS];
     for f in 0..FIELDS {
-        fields[f] = pass.load_field(tick, f as u32);
+        fields[f] = pass.load_field(words, tick, tick % 10, f as u32);
     }
     fields
 }
 
-fn open_fast(pass: &mut PassSeat) -> u64
+fn open_fast(words: &Words, pass: &mut PassSeat) -> u64
+    requires { words.now.shared.table_id ≡ pass.old.table }
     ensures table { pass.new.table ≡ pass.old.table }
     ensures calling { pass.new.view.calling ≡ true }
     ensures tick { (scan_of pass.new.view).tick ≡ result / 2 }
 {
-    pass.open_call(Ask {
-        kind: Kind::Fast,
-        given: 0,
-    })
+    pass.open_call(
+        words,
+        Ask {
+            kind: Kind::Fast,
+            given: 0,
+        },
+    )
 }
 
 // A full read that meets an odd turn word is over at once, and shows that word twice.
-fn open_full(pass: &mut PassSeat) -> u64
-    requires { pass.old.view.entries ≡ [] }
+fn open_full(words: &Words, pass: &mut PassSeat) -> u64
+    requires words { words.now.shared.table_id ≡ pass.old.table }
+    requires first { pass.old.view.entries ≡ [] }
     ensures { result % 2 ≡ 1 → pass.new.view.entries ≡ noted (Again Abs result result) result ∷ [] }
 {
-    pass.open_call(Ask {
-        kind: Kind::Abs,
-        given: 0,
-    })
+    pass.open_call(
+        words,
+        Ask {
+            kind: Kind::Abs,
+            given: 0,
+        },
+    )
+}
+
+#[test]
+fn a_new_table_has_the_cold_tick_alone(rt: HostRuntime) {
+    for i in 0..FIRST.len() {
+        let word = match i {
+            2 => 2,
+            17 => 261,
+            _ => 0,
+        };
+        assert_eq!(rt; FIRST[i], word, "word {i}");
+    }
 }
 
 #[test]
 fn a_fast_read_needs_no_closed_turn(rt: HostRuntime) -> Result<(), Fail> {
     let mut pen = PenSeat::new(rt.alloc())?;
     let share = pen.share()?;
-    let mut pass = pen.split_pass(share);
+    let mut pass = pen.split_pass();
+    let words = share.words();
     let mut crank = pen.split_crank();
     assert_eq!(rt; crank.raise_counter(7), 7);
     assert_eq!(rt; crank.raise_counter(5), 7);
+    assert_eq!(rt; pen.raise_counter(6), 7);
     pen.start_turn();
     assert_eq!(rt; pen.load_counter(), 7);
-    let turn = open_fast(&mut pass);
+    let turn = open_fast(words, &mut pass);
     assert_eq!(rt; turn, 1);
-    let fields = load_fields(&mut pass, turn / 2);
+    let fields = load_fields(words, &mut pass, turn / 2);
     assert_eq!(rt; unpack(&fields), cold());
-    assert_eq!(rt; pass.load_mark(turn / 2), 2);
+    assert_eq!(rt; pass.load_mark(words, turn / 2, turn / 2 % 10), 2);
     let note = pen.split_note();
-    pass.join_note(note);
+    pass.join_note(words, note);
     pen.join_crank(crank);
     pen.join_pass(pass);
     assert_eq!(rt; pen.load_turn(), 1);
@@ -124,7 +148,8 @@ fn a_fast_read_needs_no_closed_turn(rt: HostRuntime) -> Result<(), Fail> {
 fn reads_beside_the_windup_to_tick_4(rt: HostRuntime) -> Result<(), Fail> {
     let mut pen = PenSeat::new(rt.alloc())?;
     let share = pen.share()?;
-    let mut pass = pen.split_pass(share);
+    let mut pass = pen.split_pass();
+    let words = share.words();
     let start = Bintime { sec: 0, frac: 0 };
     let none = Marks {
         unsync: false,
@@ -151,11 +176,11 @@ fn reads_beside_the_windup_to_tick_4(rt: HostRuntime) -> Result<(), Fail> {
     let third = wind_up(&mut pen, 3, &second, &Order::Plain)?;
     pen.start_turn();
     assert_eq!(rt; pen.load_turn(), 7);
-    assert_eq!(rt; open_full(&mut pass), 7);
-    let turn = open_fast(&mut pass);
+    assert_eq!(rt; open_full(words, &mut pass), 7);
+    let turn = open_fast(words, &mut pass);
     assert_eq!(rt; turn, 7);
-    let fields = load_fields(&mut pass, turn / 2);
-    let words = [
+    let fields = load_fields(words, &mut pass, turn / 2);
+    let wanted = [
         20,
         100,
         202_914_184_803,
@@ -172,8 +197,8 @@ fn reads_beside_the_windup_to_tick_4(rt: HostRuntime) -> Result<(), Fail> {
         0,
         272,
     ];
-    assert_eq!(rt; fields, words);
+    assert_eq!(rt; fields, wanted);
     assert_eq!(rt; unpack(&fields), third);
-    assert_eq!(rt; pass.load_mark(turn / 2), 8);
+    assert_eq!(rt; pass.load_mark(words, turn / 2, turn / 2 % 10), 8);
     Ok(())
 }

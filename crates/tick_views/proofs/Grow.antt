@@ -17,7 +17,7 @@ use Rattle.clock_logs.specs.Legal.{Way, full, quick, past, way_of}
 use Rattle.tick_reads.specs.Looks.{full_mark}
 use Rattle.tick_reads.specs.Scans.{Scan}
 use Rattle.clock_logs.specs.Logs.{IsReadSince}
-use Rattle.tick_views.specs.Worlds.{Goes, AllBelow, opening_of, FitsEntry, FitsLog, FitsKept, FitsCall, FitsPass, Fits, top_tick, World, IsTimely, FitsCount, FitsAgain, FitsKind, Crossed, Overtaken, counts_of}
+use Rattle.tick_views.specs.Worlds.{Goes, AllBelow, opening_of, FitsEntry, FitsLog, FitsKept, FitsCall, FitsPass, Fits, top_tick, World, IsTimely, FitsCount, FitsAgain, FitsKind, MetWindup, LostSlot, counts_of}
 
 module _ {A : Type 0} where
   pub at_shorter : (l m : List A) (i : ℕ) (a : A) → i < length l → get_elem? (l ++ m) i ≡ some a → get_elem? l i ≡ some a
@@ -57,16 +57,16 @@ module _ (w w' : World) (g : Goes w w') where
   grow_count quick given n h c in-J f = tt
   grow_count past given n h c in-J f = (f.0, grow_timely n given in-J f.1)
 
-  grow_overtaken : (m a b : ℕ) → Overtaken w m a b → Overtaken w' m a b
+  grow_overtaken : (m a b : ℕ) → LostSlot w m a b → LostSlot w' m a b
   grow_overtaken m a b f = let c = f.1 in (f.0, (c.0, c.1, c.2, c.3, le_trans c.4 (half-up w.turn w'.turn g.turn)))
 
-  grow_crossed : (o a b : ℕ) → Crossed w o a b → Crossed w' o a b
+  grow_crossed : (o a b : ℕ) → MetWindup w o a b → MetWindup w' o a b
   grow_crossed o a b f = (f.0, le_trans f.1 g.turn, f.2)
 
   grow_again : (k : Way) (o a b : ℕ) → FitsAgain w k o a b → FitsAgain w' k o a b
   grow_again full o a b f = grow_crossed o a b f
   grow_again quick o a b f = grow_overtaken (o / 2) a b f
-  grow_again past o a b f = ⊎_elim (λ x. inl (grow_crossed o a b x)) (λ (x : (m : ℕ) × IsReadSince past m o × Overtaken w m a b). inr (x.0, x.1, grow_overtaken x.0 a b x.2)) f
+  grow_again past o a b f = ⊎_elim (λ x. inl (grow_crossed o a b x)) (λ (x : (m : ℕ) × IsReadSince past m o × LostSlot w m a b). inr (x.0, x.1, grow_overtaken x.0 a b x.2)) f
 
   pub grow_entry : (o : ℕ) (e : Entry) → FitsEntry w o e → FitsEntry w' o e
   grow_entry o (Read r) f = record { ask = f.ask; hands = f.hands; counter = f.counter; at = g.on r.tick f.hands f.at; is = f.is; count = grow_count (way_of f.ask.kind) f.ask.given r.tick f.hands f.counter (in_list w.journal r.tick f.hands f.at) f.count; tick = f.tick }
@@ -117,7 +117,7 @@ module _ (w w' : World) (g : Goes w w') where
     number = omega arith;
     counters_rise = f.counters_rise;
     counters_below = below_more w.counter w'.counter v.counters g.counter f.counters_below;
-    marks = λ i l at. ⊎_elim (λ (own : l.mark ≡ full_mark l.tick). inl own) (λ (other : Overtaken w l.tick (full_mark l.tick) l.mark). inr (grow_overtaken l.tick (full_mark l.tick) l.mark other)) (f.marks i l at);
+    marks = λ i l at. ⊎_elim (λ (own : l.mark ≡ full_mark l.tick). inl own) (λ (other : LostSlot w l.tick (full_mark l.tick) l.mark). inr (grow_overtaken l.tick (full_mark l.tick) l.mark other)) (f.marks i l at);
     log = grow_log v.entries f.log;
     call = λ calling. grow_call v.seen v.entries _ _ _ f.seen (f.call calling);
   }

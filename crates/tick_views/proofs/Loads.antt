@@ -26,12 +26,12 @@ use Rattle.tick_reads.proofs.Runs.{run-snoc}
 use Rattle.clock_logs.specs.Legal.{Way, full, quick, past, way_of}
 use Rattle.tick_reads.specs.Ways.{needs_even, count_by}
 use Rattle.tick_reads.specs.Looks.{full_mark}
-use Rattle.tick_reads.specs.Scans.{Scan, fresh, is_even, counter_of, read_by, has_fields, ends, at_turn, at_mark, turn_ends, mark_ends, opens_at, opened, turn_again, turned, goes_down, finds_top, finds_line, looks_at, finds_mark, walks, mark_by, counts_back, counter_back, counter_by, after, run}
+use Rattle.tick_reads.specs.Scans.{Scan, fresh, is_even, counter_of, read_by, has_fields, ends, at_turn, at_mark, turn_ends, mark_ends, opens_at, opened, turn_again, turned, goes_down, finds_top, finds_line, looks_at, finds_mark, walks, mark_by, counts_back, counter_back, takes_counter, after, run}
 use Rattle.clock_logs.specs.Logs.{IsReadSince}
-use Rattle.tick_views.specs.Worlds.{World, IsMark, IsTimely, FitsCount, Crossed, Overtaken, FitsAgain, FitsWalk, FitsKind, FitsMark, top_tick, AllBelow, Rises, opening_of, StartsWith, FitsEntry, FitsLog, FitsCall, FitsPass, count_if, counts_in, counts_of}
+use Rattle.tick_views.specs.Worlds.{World, IsMark, IsTimely, FitsCount, MetWindup, LostSlot, FitsAgain, FitsWalk, FitsKind, FitsMark, top_tick, AllBelow, NeverFall, opening_of, StartsWith, FitsEntry, FitsLog, FitsCall, FitsPass, count_if, counts_in, counts_of}
 use Rattle.tick_views.specs.Views.{settled, turn_loaded, counter_loaded, field_loaded, mark_loaded, call_begun, scan_of, undecided, gained, noted, mark_load}
 
-rises-snoc : (xs : List ℕ) (w : ℕ) → Rises xs → AllBelow w xs → Rises (xs ++ w ∷ [])
+rises-snoc : (xs : List ℕ) (w : ℕ) → NeverFall xs → AllBelow w xs → NeverFall (xs ++ w ∷ [])
 rises-snoc [] w r b = ((λ i x e. absurd (some-ne-none x (sym e))), tt)
 rises-snoc (x ∷ xs) w r b = (
   (λ i y e. ⊎_elim (λ (at : get_elem? xs i ≡ some y). r.0 i y at) (λ (same : w ≡ y). subst (λ k. x ≤ k) same (b 0 x refl)) (at_snoc xs w y i e)),
@@ -89,9 +89,9 @@ module _ (w : World) (back : (m : ℕ) (h : Hands) → get_elem? w.journal m ≡
   NewCounts xs (c ∷ []) = AllBelow c xs × (c ≤ w.counter)
   NewCounts xs (c ∷ d ∷ ds) = ⊥
 
-  add_rises : (xs ys : List ℕ) → Rises xs → NewCounts xs ys → Rises (xs ++ ys)
+  add_rises : (xs ys : List ℕ) → NeverFall xs → NewCounts xs ys → NeverFall (xs ++ ys)
   unfolding NewCounts
-  add_rises xs [] r n = subst Rises (sym (append_none xs)) r
+  add_rises xs [] r n = subst NeverFall (sym (append_none xs)) r
   add_rises xs (c ∷ []) r n = rises-snoc xs c r n.0
   add_rises xs (c ∷ d ∷ ds) r n = absurd n
 
@@ -129,9 +129,9 @@ module _ (w : World) (back : (m : ℕ) (h : Hands) → get_elem? w.journal m ≡
   log-snoc : (log : List Noted) (e : Entry) (o : ℕ) → FitsLog w log → IsNext log o e → FitsLog w (log ++ noted e o ∷ [])
   log-snoc log e o f n = let openings = map-append opening_of log (noted e o ∷ []) in let counts = counts-snoc log (noted e o) in record {
     each = λ i x at. ⊎_elim (λ (was : get_elem? log i ≡ some x). f.each i x was) (λ (same : noted e o ≡ x). subst (λ (y : Noted). FitsEntry w y.opening y.entry) same n.fits) (at_snoc log (noted e o) x i at);
-    rises = subst Rises (sym openings) (rises-snoc (map opening_of log) o f.rises n.later);
+    rises = subst NeverFall (sym openings) (rises-snoc (map opening_of log) o f.rises n.later);
     below = subst (AllBelow w.turn) (sym openings) (below-snoc w.turn (map opening_of log) o f.below n.reached);
-    counts_rise = subst Rises (sym counts) (add_rises (counts_of log) (counts_in e) f.counts_rise n.counts);
+    counts_rise = subst NeverFall (sym counts) (add_rises (counts_of log) (counts_in e) f.counts_rise n.counts);
     counts_below = subst (AllBelow w.counter) (sym counts) (add_below (counts_of log) (counts_in e) f.counts_below n.counts);
   }
 
@@ -174,10 +174,10 @@ module _ (w : World) (back : (m : ℕ) (h : Hands) → get_elem? w.journal m ≡
     number : v.number < w.made
     log : FitsLog w v.entries
     in_journal : seen ≤ length w.journal
-    rises : Rises turns
+    rises : NeverFall turns
     below : AllBelow w.turn turns
     known : (i t : ℕ) → get_elem? turns i ≡ some t → t / 2 < seen
-    counters_rise : Rises counters
+    counters_rise : NeverFall counters
     counters_below : AllBelow w.counter counters
     marked : (i : ℕ) (k : MarkLoad) → get_elem? marks i ≡ some k → FitsMark w k
     is : run v.ask fresh (v.loads ++ l ∷ []) ≡ s
@@ -237,7 +237,7 @@ module _ (w : World) (back : (m : ℕ) (h : Hands) → get_elem? w.journal m ≡
         let c = first_counter seen log full ask s f b.1 in
         (h.0, h.1, h.2, c.2 h.0 (subst (λ t. get_elem? w.journal t ≡ some h.0) k.0 h.2), subst (λ t. IsTimely w t (counter_of s)) (sym k.0) (timely s (counter_of s) a c.0), c.1, c.0)
 
-    crossed : (s : Scan) → s.first ≤ w.turn → s.first % 2 ≡ 0 → (w.turn == s.first) ≡ false → Crossed w s.first s.first w.turn
+    crossed : (s : Scan) → s.first ≤ w.turn → s.first % 2 ≡ 0 → (w.turn == s.first) ≡ false → MetWindup w s.first s.first w.turn
     crossed s reached even is = let less : s.first < w.turn = ⊎_elim (λ (x : ((w.turn == s.first) ≡ true) × (w.turn ≡ s.first)). absurd (true≢false (sym x.0 ∙ is))) (λ (x : ((w.turn == s.first) ≡ false) × (w.turn ≢ s.first)). let ne = x.1 in omega arith) (eqb_tells w.turn s.first) in
         (refl, le_refl w.turn, inr (less, even))
 
@@ -309,8 +309,8 @@ module _ (w : World) (back : (m : ℕ) (h : Hands) → get_elem? w.journal m ≡
     not_past : {P : Type 0} → full ≡ past → P
     not_past x = cc
 
-    counter_kind : (k : Way) (ask : Ask) (e : way_of ask.kind ≡ k) (seen : ℕ) (log : List Noted) (s : Scan) → FitsLog w log → FitsCall w seen log k ask s → Outcome seen log k ask (counter_by k ask s w.counter)
-    counter_kind full ask e seen log s l f = goes_open seen log full ask (counter_by full ask s w.counter) record {
+    counter_kind : (k : Way) (ask : Ask) (e : way_of ask.kind ≡ k) (seen : ℕ) (log : List Noted) (s : Scan) → FitsLog w log → FitsCall w seen log k ask s → Outcome seen log k ask (takes_counter k ask s w.counter)
+    counter_kind full ask e seen log s l f = goes_open seen log full ask (takes_counter full ask s w.counter) record {
       begun = refl;
       undecided = refl;
       later = f.later;
@@ -457,7 +457,7 @@ module _ (w : World) (back : (m : ℕ) (h : Hands) → get_elem? w.journal m ≡
             counts = new_read ask.kind ask.given (counter_of s) (unpack s.fields) (counts_of log) (λ needs. absurd (true≢false (sym needs ∙ ap needs_even e)));
           }
           entry false same = let tick = f.tick in let near = f.near in let whole = (both_true (has_fields s) _ is).0 in record {
-            fits = subst (λ z. FitsAgain w z s.first (full_mark s.tick) (w.marks s.tick)) (sym e) (subst (λ m. Overtaken w m (full_mark s.tick) (w.marks s.tick)) (here (both_true s.good _ whole).0) (refl, later s.tick (omega arith) (not_full s.tick same)));
+            fits = subst (λ z. FitsAgain w z s.first (full_mark s.tick) (w.marks s.tick)) (sym e) (subst (λ m. LostSlot w m (full_mark s.tick) (w.marks s.tick)) (here (both_true s.good _ whole).0) (refl, later s.tick (omega arith) (not_full s.tick same)));
             later = f.later;
             reached = f.reached;
             counts = no_read (counts_of log);

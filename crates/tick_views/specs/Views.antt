@@ -3,6 +3,7 @@ use Rattle.std.specs.Prelude.{ℕ, ◌+◌, ◌/◌, max, Bool, true, false, Lis
 use Rattle.tick_reads.specs.declared.loads.Ask.{Ask}
 use Rattle.clock_logs.specs.declared.noted.Kept.{Kept}
 use Rattle.tick_views.specs.declared.views.MarkLoad.{MarkLoad}
+use Rattle.tick_views.specs.declared.views.CrankView.{CrankView}
 use Rattle.tick_views.specs.declared.views.PenView.{PenView}
 use Rattle.tick_views.specs.declared.views.PassView.{PassView}
 use Rattle.tick_views.specs.declared.views.View.{View}
@@ -18,7 +19,7 @@ use Rattle.tick_reads.specs.Scans.{Scan, fresh, after, run}
 
 -- a new table
 abbrev pub pen_first : PenView
-pen_first = record { journal = cold ∷ []; winding = false; marked = false; set = false; loaded = None; counters = []; top = 0; out = false; stored = []; made = 0; kept = [] }
+pen_first = record { journal = cold ∷ []; winding = false; marked = false; set = false; loaded = None; counters = []; top = 0; met = []; out = false; stored = []; made = 0; kept = [] }
 
 -- the steps of a windup, in their order
 abbrev pub turn_started : PenView → PenView
@@ -44,8 +45,9 @@ mark_set p = record p { set = true }
 abbrev pub turn_closed : PenView → PenView
 turn_closed p = record p { journal = p.journal ++ unpack p.stored ∷ []; winding = false; marked = false; set = false; loaded = None }
 
-abbrev pub top_raised : ℕ → PenView → PenView
-top_raised to p = record p { top = max p.top to }
+-- a raise, which left the counter at met
+abbrev pub top_raised : ℕ → ℕ → PenView → PenView
+top_raised to met p = record p { top = max p.top to; met = p.met ++ met ∷ [] }
 
 -- a step of the pen changes the view of the pen alone, and so for the others
 abbrev pub on_pen : (PenView → PenView) → View → View
@@ -62,19 +64,26 @@ pen_of (Crank top) = pen_first
 pen_of (Note seen) = pen_first
 pen_of Spent = pen_first
 
-abbrev pub on_crank : (ℕ → ℕ) → View → View
+-- a crank that has raised the counter to nothing, and a raise, which left the counter at met
+abbrev pub crank_first : CrankView
+crank_first = record { top = 0; met = [] }
+
+abbrev pub crank_raised : ℕ → ℕ → CrankView → CrankView
+crank_raised to met k = record { top = max k.top to; met = k.met ++ met ∷ [] }
+
+abbrev pub on_crank : (CrankView → CrankView) → View → View
 on_crank f (Pen p) = Pen p
 on_crank f (Pass v) = Pass v
 on_crank f (Crank top) = Crank (f top)
 on_crank f (Note seen) = Note seen
 on_crank f Spent = Spent
 
-abbrev pub crank_of : View → ℕ
-crank_of (Pen p) = 0
-crank_of (Pass v) = 0
-crank_of (Crank top) = top
-crank_of (Note seen) = 0
-crank_of Spent = 0
+abbrev pub crank_of : View → CrankView
+crank_of (Pen p) = crank_first
+crank_of (Pass v) = crank_first
+crank_of (Crank k) = k
+crank_of (Note seen) = crank_first
+crank_of Spent = crank_first
 
 abbrev pub no_ask : Ask
 no_ask = record { kind = kind.Fast; given = 0 }
@@ -178,7 +187,7 @@ abbrev pub crank_lent : PenView → PenView
 crank_lent p = record p { out = true }
 
 abbrev pub crank_cut : View → View
-crank_cut (Pen p) = Crank 0
+crank_cut (Pen p) = Crank crank_first
 crank_cut (Pass v) = Spent
 crank_cut (Crank top) = Spent
 crank_cut (Note seen) = Spent
@@ -191,7 +200,7 @@ crank_taken p top = record p { out = false; top = max p.top top }
 abbrev pub taken_by_pen : PenView → View → PenView
 taken_by_pen p (Pen q) = p
 taken_by_pen p (Pass v) = pass_taken p v
-taken_by_pen p (Crank top) = crank_taken p top
+taken_by_pen p (Crank k) = crank_taken p k.top
 taken_by_pen p (Note seen) = p
 taken_by_pen p Spent = p
 

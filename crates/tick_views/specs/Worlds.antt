@@ -29,9 +29,9 @@ abbrev pub AllFrom : ℕ → List ℕ → Type 0
 AllFrom t xs = (i x : ℕ) → get_elem? xs i ≡ some x → t ≤ x
 
 -- the members never fall
-abbrev pub Rises : List ℕ → Type 0
-Rises [] = Unit {0}
-Rises (x ∷ xs) = AllFrom x xs × Rises xs
+abbrev pub NeverFall : List ℕ → Type 0
+NeverFall [] = Unit {0}
+NeverFall (x ∷ xs) = AllFrom x xs × NeverFall xs
 
 -- the list ys is the front of xs
 abbrev pub StartsWith : List ℕ → List ℕ → Type 0
@@ -80,22 +80,22 @@ pub record FitsRead (w : World) (opening : ℕ) (r : Reading) : Type 0 where
   pub tick : IsReadSince (way_of ask.kind) r.tick opening
 
 -- a windup stood open, or came between
-abbrev pub Crossed : World → ℕ → ℕ → ℕ → Type 0
-Crossed w opening first last = (first ≡ opening) × (last ≤ w.turn) × (((first ≡ last) × (first % 2 ≡ 1)) ⊎ ((first < last) × (first % 2 ≡ 0)))
+abbrev pub MetWindup : World → ℕ → ℕ → ℕ → Type 0
+MetWindup w opening first last = (first ≡ opening) × (last ≤ w.turn) × (((first ≡ last) × (first % 2 ≡ 1)) ⊎ ((first < last) × (first % 2 ≡ 0)))
 
 -- the slot of tick m was taken for a later tick
-abbrev pub Overtaken : World → ℕ → ℕ → ℕ → Type 0
-Overtaken w m first last = (first ≡ full_mark m) × ((k : ℕ) × IsMark last k × (m + 10 ≤ k) × (k % 10 ≡ m % 10) × (k ≤ top_tick w.turn))
+abbrev pub LostSlot : World → ℕ → ℕ → ℕ → Type 0
+LostSlot w m first last = (first ≡ full_mark m) × ((k : ℕ) × IsMark last k × (m + 10 ≤ k) × (k % 10 ≡ m % 10) × (k ≤ top_tick w.turn))
 
 -- why a call has to be made again
 abbrev pub FitsAgain : World → Way → ℕ → ℕ → ℕ → Type 0
-FitsAgain w full opening first last = Crossed w opening first last
-FitsAgain w quick opening first last = Overtaken w (opening / 2) first last
-FitsAgain w past opening first last = Crossed w opening first last ⊎ ((m : ℕ) × IsReadSince past m opening × Overtaken w m first last)
+FitsAgain w full opening first last = MetWindup w opening first last
+FitsAgain w quick opening first last = LostSlot w (opening / 2) first last
+FitsAgain w past opening first last = MetWindup w opening first last ⊎ ((m : ℕ) × IsReadSince past m opening × LostSlot w m first last)
 
 -- a mark that was loaded of tick m is its own, or of a later tick of its slot
 abbrev pub FitsMark : World → MarkLoad → Type 0
-FitsMark w l = (l.mark ≡ full_mark l.tick) ⊎ Overtaken w l.tick (full_mark l.tick) l.mark
+FitsMark w l = (l.mark ≡ full_mark l.tick) ⊎ LostSlot w l.tick (full_mark l.tick) l.mark
 
 -- the tenth tick that was looked at is not before the count
 pub record FitsOld (w : World) (opening count oldest : ℕ) : Type 0 where
@@ -133,9 +133,9 @@ counts_of (e ∷ es) = counts_in e.entry ++ counts_of es
 -- all entries of one pass, in their order
 pub record FitsLog (w : World) (log : List Noted) : Type 0 where
   pub each : (i : ℕ) (e : Noted) → get_elem? log i ≡ some e → FitsEntry w e.opening e.entry
-  pub rises : Rises (map opening_of log)
+  pub rises : NeverFall (map opening_of log)
   pub below : AllBelow w.turn (map opening_of log)
-  pub counts_rise : Rises (counts_of log)
+  pub counts_rise : NeverFall (counts_of log)
   pub counts_below : AllBelow w.counter (counts_of log)
 
 -- what the pen kept of a pass
@@ -171,11 +171,11 @@ pub record FitsCall (w : World) (known : ℕ) (log : List Noted) (y : Way) (ask 
 -- a pass knows nothing that was not so
 pub record FitsPass (w : World) (v : PassView) : Type 0 where
   pub seen : v.seen ≤ length w.journal
-  pub rises : Rises v.turns
+  pub rises : NeverFall v.turns
   pub below : AllBelow w.turn v.turns
   pub known : (i t : ℕ) → get_elem? v.turns i ≡ some t → t / 2 < v.seen
   pub number : v.number < w.made
-  pub counters_rise : Rises v.counters
+  pub counters_rise : NeverFall v.counters
   pub counters_below : AllBelow w.counter v.counters
   pub marks : (i : ℕ) (l : MarkLoad) → get_elem? v.marks i ≡ some l → FitsMark w l
   pub log : FitsLog w v.entries

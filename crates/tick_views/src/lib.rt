@@ -4,7 +4,12 @@
 #![tactic(auto)]
 
 mod laws;
+mod refusals;
 mod views;
 
 pub use laws::views_stay_fit;
-pub use views::{MarkLoad, PassView, PenView, View};
+pub use refusals::{
+    again_has_a_cause, numbers_fall, other_answers_have_a_cause, passes_are_kept_whole,
+    raises_are_kept,
+};
+pub use views::{CrankView, MarkLoad, PassView, PenView, View};

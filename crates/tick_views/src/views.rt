@@ -29,6 +29,8 @@ pub struct PenView {
     pub counters: LinkedList<u64>,
     /// The greatest count that the pen, or a crank that it took back, raised the counter to.
     pub top: u64,
+    /// The counter as each raise of the pen left it, in order.
+    pub met: LinkedList<u64>,
     /// A crank is out.
     pub out: bool,
     /// How many passes were ever made.
@@ -59,12 +61,19 @@ pub struct PassView {
     pub entries: LinkedList<Noted>,
 }
 
+/// What the crank knows.
+pub struct CrankView {
+    /// The greatest count that it raised the counter to since it was lent.
+    pub top: u64,
+    /// The counter as each raise of it left it, in order.
+    pub met: LinkedList<u64>,
+}
+
 /// What a seat knows.
 pub enum View {
     Pen(PenView),
     Pass(PassView),
-    /// The greatest count that the crank raised the counter to since it was lent.
-    Crank(u64),
+    Crank(CrankView),
     /// How many ticks the maker of the note had seen.
     Note(u64),
     /// The seat was joined to another one.

@@ -123,6 +123,21 @@ fn at_2(rt: &impl Abort, alloc: Global) -> Result<(Pen, Pass, Answer), Fail> {
 }
 
 #[test]
+fn a_crank_and_its_pen_answer_the_counter(rt: HostRuntime) -> Result<(), Fail> {
+    let mut desk = Desk::start(rt.alloc())?;
+    let Some(mut crank) = desk.pen.lend() else {
+        return Err(Fail::new("the crank is out"));
+    };
+    assert_eq!(rt; crank.raise(5), 5);
+    assert_eq!(rt; desk.pen.advance(9), 9);
+    assert_eq!(rt; crank.raise(5), 9);
+    assert_eq!(rt; crank.raise(20), 20);
+    assert_eq!(rt; desk.pen.advance(7), 20);
+    desk.pen.take_back(crank);
+    Ok(())
+}
+
+#[test]
 fn a_desk_is_wound_and_read(rt: HostRuntime) -> Result<(), Fail> {
     let (mut pen, mut reader, learned) = at_2(&rt, rt.alloc())?;
     assert_eq!(rt; learned, Answer::Read(at_20(Kind::Abs, 2)));

@@ -1,8 +1,8 @@
 use Rattle.std.proofs.Common.{List, ◌<◌, length, sym, ap, ◌∙◌, subst, inl, arith}
 use Rattle.stamp_maker.specs.Worlds.{frequency}
 use Rattle.ff_hands.specs.declared.hands.Hands.{Hands}
-use Rattle.radclock.specs.MadeRuns.{run_options, run_stamps, IsTold}
-use Rattle.radclock.specs.Replays.{entries_in}
+use Rattle.radclock.specs.Replays.{run_options, run_stamps, IsTold}
+use Rattle.radclock.specs.Plays.{entries_in}
 use Rattle.radclock.proofs.Making.{has-ticks, many-fulls}
 use Rattle.radclock.proofs.Replaying.{replay-left, replay-printed}
 use Rattle.radclock.proofs.ran.run_made.Goals as goal

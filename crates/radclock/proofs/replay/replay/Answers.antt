@@ -1,5 +1,5 @@
 use Rattle.std.proofs.Common.{[], inl, inr, sym, subst}
-use Rattle.radclock.specs.Replays.{ArePrinted}
+use Rattle.radclock.specs.Plays.{ArePrinted}
 use Rattle.radclock.specs.Inputs.{accepted_among}
 use Rattle.radclock.proofs.Replaying.{replay-left, replay-printed}
 use Rattle.radclock.proofs.replay.replay.Goals as goal

@@ -5,7 +5,7 @@ use Rattle.rad_io.specs.Pushes.{Writes}
 use Rattle.rad_io.proofs.Chains.{wrote_nothing, writes_last}
 use Rattle.report_text.specs.Text.{end_text}
 use Rattle.report_text.specs.declared.lines.EndCounts.{EndCounts}
-use Rattle.radclock.specs.Replays.{entries_in, entries_of}
+use Rattle.radclock.specs.Plays.{entries_in, entries_of}
 use Rattle.radclock.specs.Reports.{outcomes, tick_lines, log_lines}
 use Rattle.radclock.specs.Tellings.{replay_told, told_text}
 use Rattle.rad_io.proofs.Joining.{wrote-on, broke-on, broke-early, writes-on}

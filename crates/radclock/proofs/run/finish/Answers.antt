@@ -1,5 +1,5 @@
 use Rattle.std.proofs.Common.{ℕ, List, inl, ap, refl, sym, subst, ◌∙◌}
-use Rattle.radclock.specs.Runs.{EndsWith, Leaves}
+use Rattle.radclock.specs.Endings.{EndsWith, Leaves}
 use Rattle.radclock.specs.Reports.{report_of}
 use Rattle.radclock.specs.declared.status.Status.TheVariants as status
 use Rattle.radclock.proofs.Told.{stamps-by-list, rtt-by-list, estimate-by-list}

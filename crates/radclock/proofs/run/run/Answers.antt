@@ -1,34 +1,59 @@
-use Rattle.std.proofs.Common.{◌∙◌}
-use Rattle.radclock.proofs.Endings.{complete-by, done-by, headline-of, made-by, none-by, ran-by, run-headline-of, usage-by}
-use Rattle.radclock.proofs.Truth.{made-truth-of, truth-of}
+use Rattle.std.proofs.Common.{◌≡◌, ℕ, List, [], ◌∷◌, Option, None, Some, sym, ◌∙◌, ap, subst}
+use Rattle.clock_words.specs.declared.commands.Command.{Command}
+use Rattle.radclock.specs.Inputs.{takes_few, stop_of_file, freq_of_file, stamps_of_file}
+use Rattle.report_text.specs.Text.{fault_text}
+use Rattle.radclock.specs.Statuses.{fault_of, status_of}
+use Rattle.radclock.specs.Endings.{EndsWith, Finishes}
+use Rattle.radclock.specs.Runs.{ByLines, Ran, ReadsTo}
+use Rattle.radclock.specs.declared.inputs.StampLine.{StampLine}
+use Rattle.radclock.proofs.Running.{run-finished, run-made, run-no-line, run-short, run-stopped, run-summarised}
 use Rattle.radclock.proofs.run.run.Goals as goal
 
-pub returns-clause-done : goal.returns-clause-done
-returns-clause-done g c is = done-by _ _ _ _ _ _ _ _ _ _ _ _ _ _ c.answer.ensures is
+pub returns-in-Ok-Some-Make : goal.returns-in-Ok-Some-Make
+returns-in-Ok-Some-Make g c =
+    let line = c.in-Ok-Some-Make in
+    let is = sym line.ensures.value ∙ line.field-0-is ∙ ap (λ x. Some x) line.field-0-0-is in
+    subst (λ (asked : Option Command). Ran g.S.Source.pull_gives (ByLines g.K.Sink.push_gives) asked c.args.source.now c.args.source.now c.args.sink.now c.make.new.sink c.args.desk.now c.args.desk.now c.make.result) (sym is)
+    (run-made g.S.Source.pull_gives g.K.Sink.written g.K.Sink.faults g.K.Sink.push_gives line.number line.count _ _ _ _ _ c.make.ensures)
 
-pub returns-clause-headline : goal.returns-clause-headline
-returns-clause-headline g c options is line = headline-of _ _ _ _ _ _ _ options line (done-by _ _ _ _ _ _ _ _ _ _ _ _ _ _ c.answer.ensures is)
+pub returns-in-Ok-Some-Run : goal.returns-in-Ok-Some-Run
+returns-in-Ok-Some-Run g c =
+    let line = c.in-Ok-Some-Run in
+    let is = sym line.ensures.value ∙ line.field-0-is ∙ ap (λ x. Some x) line.field-0-0-is in
+    subst (λ (asked : Option Command). Ran g.S.Source.pull_gives (ByLines g.K.Sink.push_gives) asked c.args.source.now c.args.source.now c.args.sink.now c.run_made.new.sink c.args.desk.now c.run_made.new.desk c.run_made.result) (sym is)
+    (run-summarised g.S.Source.pull_gives g.K.Sink.written g.K.Sink.faults g.K.Sink.push_gives (record { number = line.number; count = line.count; ideal = line.ideal }) _ _ _ _ _ _ c.requires.fresh.journal c.run_made.ensures)
 
-pub returns-clause-truth : goal.returns-clause-truth
-returns-clause-truth g c asked is line = truth-of _ _ _ _ _ _ _ asked line (done-by _ _ _ _ _ _ _ _ _ _ _ _ _ _ c.answer.ensures is)
+pub returns-in-Ok-None : goal.returns-in-Ok-None
+returns-in-Ok-None g c =
+    let is = sym c.in-Ok-None.ensures.value ∙ c.in-Ok-None.field-0-is in
+    subst (λ (asked : Option Command). Ran g.S.Source.pull_gives (ByLines g.K.Sink.push_gives) asked c.args.source.now c.args.source.now c.args.sink.now c.refuse.new.sink c.args.desk.now c.args.desk.now c.refuse.result) (sym is)
+    (run-no-line g.S.Source.pull_gives g.K.Sink.written g.K.Sink.faults g.K.Sink.push_gives _ _ _ _ _ c.refuse.ensures)
 
-pub returns-clause-none : goal.returns-clause-none
-returns-clause-none g c none = none-by _ _ _ _ _ _ _ _ _ _ _ _ _ _ _ _ _ c.answer.ensures.comes c.answer.ensures.ends none ∙ c.requires.fresh.journal
+pub returns-in-Err : goal.returns-in-Err
+returns-in-Err g c = run-short g.S.Source.pull_gives g.K.Sink.written g.K.Sink.faults g.K.Sink.push_gives _ _ _ _ _ _ c.requires.fresh.journal c.refuse-in-Err.ensures
 
-pub returns-clause-usage : goal.returns-clause-usage
-returns-clause-usage g c line = usage-by _ _ _ _ _ _ _ _ _ _ _ _ _ _ _ _ _ c.answer.ensures.comes c.answer.ensures.ends line
+pub returns-in-Ok : goal.returns-in-Ok
+returns-in-Ok g c =
+    let line = c.in-Ok-Some-Report in
+    let asked = line.asked in
+    let is = sym line.ensures.value ∙ line.field-0-is ∙ ap (λ x. Some x) line.field-0-0-is in
+    let file = c.in-Ok.file in
+    let ok = c.in-Ok.ensures.ok in
+    let few : c.takes_few.result ≡ takes_few asked = c.takes_few.ensures in
+    let finishes : ℕ → List StampLine → Type 0 = λ freq stamps. Finishes g.K.Sink.written g.K.Sink.faults g.K.Sink.push_gives asked freq stamps c.args.sink.now c.args.desk.now c.finish.result c.finish.new.sink c.finish.new.desk in
+    let told : finishes (freq_of_file ok.0) (stamps_of_file ok.0) = subst (finishes (freq_of_file ok.0)) ok.2.stamps (subst (λ freq. finishes freq file.stamps.items) ok.2.freq c.finish.ensures) in
+    let reads = subst (λ few. ReadsTo g.S.Source.pull_gives few c.args.source.now ok.0 None c.read_file.new.source) few ok.1 in
+    let none = subst (λ few. stop_of_file few ok.0 ≡ None) few ok.2.sound in
+    subst (λ (asked : Option Command). Ran g.S.Source.pull_gives (ByLines g.K.Sink.push_gives) asked c.args.source.now c.read_file.new.source c.args.sink.now c.finish.new.sink c.args.desk.now c.finish.new.desk c.finish.result) (sym is)
+    (run-finished g.S.Source.pull_gives g.K.Sink.written g.K.Sink.faults g.K.Sink.push_gives asked ok.0 _ _ _ _ _ _ _ c.requires.fresh.journal reads none told)
 
-pub returns-clause-complete : goal.returns-clause-complete
-returns-clause-complete g c asked text line told free_source free_sink = complete-by _ _ _ _ _ _ _ _ _ _ _ _ _ _ _ _ _ c.answer.ensures.comes c.answer.ensures.ends asked text line told free_source free_sink
-
-pub returns-clause-made : goal.returns-clause-made
-returns-clause-made g c number count line free_sink = made-by _ _ _ _ _ _ _ _ _ _ _ _ _ _ _ _ _ c.answer.ensures.comes c.answer.ensures.ends number count line free_sink
-
-pub returns-clause-summary : goal.returns-clause-summary
-returns-clause-summary g c a is line = run-headline-of _ _ _ _ _ _ _ a line (done-by _ _ _ _ _ _ _ _ _ _ _ _ _ _ c.answer.ensures is)
-
-pub returns-clause-ran : goal.returns-clause-ran
-returns-clause-ran g c a line free_sink = ran-by _ _ _ _ _ _ _ _ _ _ _ _ _ _ _ _ _ c.answer.ensures.comes c.answer.ensures.ends a line free_sink
-
-pub returns-clause-made_truth : goal.returns-clause-made_truth
-returns-clause-made_truth g c a is line = made-truth-of _ _ _ _ a _ (run-headline-of _ _ _ _ _ _ _ a line (done-by _ _ _ _ _ _ _ _ _ _ _ _ _ _ c.answer.ensures is))
+pub returns-in-Err-read_file : goal.returns-in-Err-read_file
+returns-in-Err-read_file g c =
+    let line = c.in-Ok-Some-Report in
+    let is = sym line.ensures.value ∙ line.field-0-is ∙ ap (λ x. Some x) line.field-0-0-is in
+    let s = c.in-Err-read_file.stop in
+    let err = c.in-Err-read_file.ensures.err in
+    let reads = subst (λ few. ReadsTo g.S.Source.pull_gives few c.args.source.now err.0 (Some s) c.read_file.new.source) c.takes_few.ensures err.1 in
+    let ends : EndsWith g.K.Sink.written g.K.Sink.faults g.K.Sink.push_gives c.args.sink.now (fault_text (fault_of s) ∷ []) (status_of s) c.refuse-in-Err-read_file.result c.refuse-in-Err-read_file.new.sink = rw (← c.status_of.ensures, ← c.fault_of.ensures) c.refuse-in-Err-read_file.ensures in
+    subst (λ (asked : Option Command). Ran g.S.Source.pull_gives (ByLines g.K.Sink.push_gives) asked c.args.source.now c.read_file.new.source c.args.sink.now c.refuse-in-Err-read_file.new.sink c.args.desk.now c.args.desk.now c.refuse-in-Err-read_file.result) (sym is)
+    (run-stopped g.S.Source.pull_gives g.K.Sink.written g.K.Sink.faults g.K.Sink.push_gives line.asked s err.0 _ _ _ _ _ _ c.requires.fresh.journal reads err.2 ends)

@@ -19,7 +19,7 @@ returns-in-Some c =
     (c.in-Some.ensures.table ∙ (c.open_call-first.ensures.table ∙ ap (λ (z : PassSees). z.table) c.self.view_is)) c.in-Some.ensures.some c.in-Some.ensures.by
 
 pub loop-down-init : goal.loop-down-init
-loop-down-init c = record { table = refl; near = let some = c.in_default.ensures.more refl in omega arith; few = omega arith; down = down_here _ _ _ _ _ (c.in_default.ensures.none refl) }
+loop-down-init c = record { table = refl; near = let some = c.in_default.ensures.more refl in omega arith; few = omega arith; slot = let some = c.in_default.ensures.more refl in omega arith; down = down_here _ _ _ _ _ (c.in_default.ensures.none refl) }
 
 pub loop-down-preserved : goal.loop-down-preserved
 loop-down-preserved c = let i = c.loop-down.invariant in let n = c.in_default-look_older.ensures in let some = n.more refl in let near = n.nearer refl in
@@ -27,6 +27,7 @@ loop-down-preserved c = let i = c.loop-down.invariant in let n = c.in_default-lo
       table = n.table ∙ i.table;
       near = omega arith;
       few = omega arith;
+      slot = omega (arith, i.slot);
       down = subst (λ t. GoesDown c.look_newest.new.self.view c.look_older.new.self.view c.args.count c.open_call-first.result t) next (down_down _ _ _ _ _ _ _ i.down (n.none refl));
     }
 

@@ -12,6 +12,9 @@ returns-clause-legal c =
     subst (λ (p : PassSees). IsKeptLegal c.args.self.now.journal c.args.self.now.top c.args.self.now.out (kept_of p.view)) c.pass.view_is
     (subst (λ (s : PenShows). IsKeptLegal s.journal s.top s.out (kept_of c.pass.inside.seat.view)) c.self.view_is legal)
 
+pub returns-clause-counters : goal.returns-clause-counters
+returns-clause-counters c home = (returns-clause-legal c).counters home
+
 pub returns-clause-all : goal.returns-clause-all
 returns-clause-all c i k at =
     let v = c.join_pass.ensures.view in let h = c.self.invariant in
