@@ -41,6 +41,7 @@ struct options {
     long spacing;   /* from one to the next, in ms */
     long wait;      /* for a reply, in ms */
     bool raw_clock; /* the counter is CLOCK_MONOTONIC_RAW */
+    bool first;     /* the file is of version 1 */
 };
 
 struct counter {
@@ -57,6 +58,7 @@ struct server_time {
 struct exchange {
     uint64_t sent, received;       /* counts */
     struct server_time came, left; /* when the request came to the server, and the reply left it */
+    unsigned stratum, leap;        /* as the server says them */
 };
 
 struct totals {
@@ -212,14 +214,16 @@ static void say_kiss(const unsigned char *reply)
     say("the server refuses: %s", code);
 }
 
-/* What datagram this is, for this request. Fills in the server's times of a good reply. */
+/* What datagram this is, for this request. Fills in what the server says in a good reply. */
 static enum verdict judge(const unsigned char *request, const unsigned char *reply, ssize_t bytes,
                           struct exchange *e)
 {
     if (bytes < PACKET_BYTES || (reply[0] & 7) != 4) return NO_REPLY;
     if (memcmp(reply + 24, request + 40, 8) != 0) return NO_REPLY;
     if (reply[1] == 0) return KISS;
-    bool synchronised = reply[0] >> 6 != 3 && reply[1] < 16;
+    e->leap = reply[0] >> 6;
+    e->stratum = reply[1];
+    bool synchronised = e->leap != 3 && e->stratum < 16;
     if (!synchronised || is_zero(reply, 32) || is_zero(reply, 40)) return UNUSABLE;
     e->came = time_at(reply, 32);
     e->left = time_at(reply, 40);
@@ -284,18 +288,20 @@ static enum verdict exchange(int s, const struct counter *counter, long wait, st
 
 /* ---- The file ---- */
 
-static void write_head(const struct counter *counter)
+static void write_head(const struct counter *counter, bool first)
 {
-    printf("radclock-stamps 1\nfreq %" PRIu64 "\n", counter->frequency);
+    printf("radclock-stamps %d\nfreq %" PRIu64 "\n", first ? 1 : 2, counter->frequency);
     const char *name = counter->raw_clock ? "CLOCK_MONOTONIC_RAW, in ns" : "the processor's";
     printf("# The counter is %s.\n", name);
     if (counter->base != 0) printf("# Each count is written less %" PRIu64 ".\n", counter->base);
 }
 
-static void write_stamp(const struct exchange *e)
+static void write_stamp(const struct exchange *e, bool first)
 {
-    printf("%" PRIu64 " %" PRId64 ".%09" PRIu32 " %" PRId64 ".%09" PRIu32 " %" PRIu64 "\n", e->sent,
+    printf("%" PRIu64 " %" PRId64 ".%09" PRIu32 " %" PRId64 ".%09" PRIu32 " %" PRIu64, e->sent,
            e->came.seconds, e->came.nanos, e->left.seconds, e->left.nanos, e->received);
+    if (!first) printf(" %u %u", e->stratum, e->leap);
+    putchar('\n');
 }
 
 static void sleep_until(uint64_t nanos)
@@ -306,13 +312,13 @@ static void sleep_until(uint64_t nanos)
 }
 
 /* Writes a good exchange. False where its counts or the output do not allow it. */
-static bool keep(const struct exchange *e)
+static bool keep(const struct exchange *e, bool first)
 {
     if (e->received >= COUNT_LIMIT) {
         say("the counter is past what a stamp file may say");
         return false;
     }
-    write_stamp(e);
+    write_stamp(e, first);
     if (ferror(stdout)) say("the output cannot be written: %s", strerror(errno));
     return !ferror(stdout);
 }
@@ -328,7 +334,7 @@ static bool collect(int s, const struct counter *counter, const struct options *
         t->sent++;
         t->lost += verdict == NO_REPLY;
         t->unusable += verdict == UNUSABLE || verdict == KISS;
-        if (verdict == KISS || (verdict == GOOD && !keep(&e))) return false;
+        if (verdict == KISS || (verdict == GOOD && !keep(&e, o->first))) return false;
         t->written += verdict == GOOD;
     }
     return true;
@@ -338,7 +344,8 @@ static bool collect(int s, const struct counter *counter, const struct options *
 
 static int usage(void)
 {
-    fputs("usage: collect [-p PORT] [-n EXCHANGES] [-i SPACING_MS] [-w WAIT_MS] [-m] SERVER >FILE\n"
+    fputs("usage: collect [-1] [-p PORT] [-n EXCHANGES] [-i SPACING_MS] [-w WAIT_MS] [-m] SERVER >FILE\n"
+          "  -1  the file is of version 1, without strata and leap seconds\n"
           "  -p  the server's port (123)\n"
           "  -n  how many exchanges are tried, 1 to 65536 (500)\n"
           "  -i  from one to the next in ms, 100 to 3600000 (16000)\n"
@@ -361,8 +368,9 @@ static bool read_words(int argc, char **argv, struct options *o)
     *o = (struct options){.port = "123", .exchanges = 500, .spacing = 16000, .wait = 1000};
     int letter;
     bool good = true;
-    while (good && (letter = getopt(argc, argv, "p:n:i:w:m")) != -1) {
+    while (good && (letter = getopt(argc, argv, "1p:n:i:w:m")) != -1) {
         switch (letter) {
+        case '1': o->first = true; break;
         case 'p': o->port = optarg; break;
         case 'n': good = number(optarg, 1, 65536, &o->exchanges); break;
         case 'i': good = number(optarg, 100, 3600000, &o->spacing); break;
@@ -385,7 +393,7 @@ int main(int argc, char **argv)
     struct counter counter = pick_counter(o.raw_clock);
     struct totals t = {0};
     setvbuf(stdout, NULL, _IOLBF, 0);
-    write_head(&counter);
+    write_head(&counter, o.first);
     bool whole = collect(s, &counter, &o, &t);
     say("%ld sent, %ld written, %ld lost, %ld foreign, %ld unusable", t.sent, t.written, t.lost,
         t.foreign, t.unusable);

@@ -50,19 +50,33 @@ class Collect(unittest.TestCase):
     def test_a_good_server(self):
         run, requests, stamps = collect(lambda i, request: [reply(request)], "-n", "3")
         self.assertEqual((run.returncode, self.totals(run)), (0, [3, 3, 0, 0, 0]))
-        self.assertRegex(run.stdout, r"\Aradclock-stamps 1\nfreq [1-9][0-9]{6,10}\n# ")
+        self.assertRegex(run.stdout, r"\Aradclock-stamps 2\nfreq [1-9][0-9]{6,10}\n# ")
         before = -1
         for stamp in stamps:
-            sent, came, left, received = stamp.split(" ")
+            sent, came, left, received, *said = stamp.split(" ")
             self.assertEqual((came, left), ("1700000000.000000000", "1700000000.500000000"))
+            self.assertEqual(said, ["2", "0"])
             self.assertTrue(before < int(sent) < int(received) < 2**62)
             before = int(received)
         self.assertEqual(len({request[40:48] for request in requests}), 3)
         self.assertTrue(all(request[:40] == b"\x23" + bytes(39) for request in requests))
 
+    def test_strata_and_leap_seconds(self):
+        said = [(1, 0), (15, 1), (3, 2)]
+
+        def answers(i, request):
+            stratum, leap = said[i]
+            return [reply(request, first=leap << 6 | 4 << 3 | 4, stratum=stratum)]
+
+        run, _, stamps = collect(answers, "-n", "3")
+        self.assertEqual([tuple(map(int, stamp.split(" ")[4:])) for stamp in stamps], said)
+        run, _, stamps = collect(answers, "-n", "3", "-1")
+        self.assertTrue(run.stdout.startswith("radclock-stamps 1\n"))
+        self.assertEqual([len(stamp.split(" ")) for stamp in stamps], [4, 4, 4])
+
     def test_the_clock_as_a_counter(self):
         run, _, stamps = collect(lambda i, request: [reply(request)], "-n", "2", "-m")
-        self.assertTrue(run.stdout.startswith("radclock-stamps 1\nfreq 1000000000\n"))
+        self.assertTrue(run.stdout.startswith("radclock-stamps 2\nfreq 1000000000\n"))
         first, second = (int(stamp.split(" ")[0]) for stamp in stamps)
         self.assertTrue(90_000_000 < second - first < 1_000_000_000)
 

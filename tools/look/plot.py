@@ -1,4 +1,5 @@
 """`look plot`: pictures of reports of the same stamps. Numbers become floats only here, and only as differences."""
+import math
 from functools import partial
 
 import clock
@@ -49,6 +50,17 @@ def keep_small(axes):
         artist.set_rasterized(many)
 
 
+def mark_sets(axes, places):
+    """A line where the clock was set."""
+    for place in places:
+        axes.axvline(place, color=GREEN, lw=1, ls=":", label="set" if place == places[0] else None)
+
+
+def sets_among(ticks, origin, frequency):
+    """When the file set the clock, in seconds. The reset of tick 1 is none of its sets."""
+    return [(tick.count - origin) / frequency for tick in ticks[2:] if tick.how == "reset"]
+
+
 def draw_trips(axes, report):
     bases = report.bases
     numbers = [b.number for b in bases]
@@ -59,6 +71,7 @@ def draw_trips(axes, report):
     for shift in (b for b in bases if b.shifted):
         axes.axvline(shift.number, color=RED, lw=1, ls="--", label=label)
         label = None
+    mark_sets(axes, [place - 0.5 for place in report.places])
     if max(b.trip for b in bases) > 4 * min(b.trip for b in bases):
         axes.set_yscale("log")
         axes.yaxis.set_major_formatter(ScalarFormatter())
@@ -76,14 +89,21 @@ def draw_periods(axes, report):
     axes.fill_between(numbers, [ppm(e.high) for e in estimates], [ppm(e.low) for e in estimates],
                       color=BAND, lw=0, label="its bounds")
     axes.plot(numbers, [ppm(e.period) for e in estimates], lw=1.2, color=BLUE, label="frequency")
+    mark_sets(axes, [place - 0.5 for place in report.places])
     scale(axes, [ppm(p) for e in seen(estimates) for p in (e.low, e.high)])
     axes.set(title="The counter's frequency, from nominal", ylabel="ppm", xlabel="accepted exchange")
     legend(axes)
 
 
 def lines_of(ticks, origin, frequency):
-    """Of each tick, at its own count and at that of the next one: the second, the gap, and the bound, in µs."""
+    """
+    Of each tick that has a bound, at its own count and at that of the next one: the second, the gap, and the bound,
+    in µs. Nothing is drawn from the last of them before a set on to the next estimate.
+    """
     for tick, following in zip(ticks, ticks[1:] + ticks[-1:]):
+        if not clock.is_bounded(tick):
+            yield math.nan, math.nan, math.nan
+            continue
         for count in (tick.count, following.count):
             gap = clock.uninterrupted(tick, count) - clock.absolute(tick, count)
             yield (count - origin) / frequency, micros(gap), micros(clock.time_bound(tick, count))
@@ -94,7 +114,8 @@ def draw_clocks(axes, ticks, origin, frequency):
     axes.fill_between(seconds, [-b for b in bounds], bounds, color=BAND, lw=0, label="bound")
     axes.axhline(0, color=ORANGE, lw=1, label="absolute")
     axes.plot(seconds, gaps, lw=1, color=BLUE, label="uninterrupted")
-    late = list(zip(gaps, bounds))
+    mark_sets(axes, sets_among(ticks, origin, frequency))
+    late = [both for both in zip(gaps, bounds) if not math.isnan(both[0])]
     scale(axes, [y for gap, bound in seen(late) for y in (gap, bound, -bound)])
     axes.set(title="The uninterrupted clock, from the absolute one", ylabel="µs", xlabel="s")
     legend(axes)
@@ -115,6 +136,7 @@ def draw_readings(axes, report, origin):
         seconds = [(r.count - origin) / report.frequency for r, _ in found]
         if found:
             axes.plot(seconds, off, marker, ms=5, label=kind)
+    mark_sets(axes, sets_among(report.ticks, origin, report.frequency))
     axes.set(title="Readings, from the absolute clock at their count", ylabel="µs", xlabel="s")
     legend(axes)
 
@@ -135,14 +157,14 @@ def panels(reports):
     """A function for each picture that the reports have the lines for."""
     told = []
     for report in reports:
-        ticks = [tick for tick in report.ticks if clock.is_bounded(tick)]
-        origin = ticks[0].count if ticks else 0
+        bounded = [tick for tick in report.ticks if clock.is_bounded(tick)]
+        origin = bounded[0].count if bounded else 0
         if report.bases:
             told.append(partial(draw_trips, report=report))
         if report.estimates:
             told.append(partial(draw_periods, report=report))
-        if ticks:
-            told.append(partial(draw_clocks, ticks=ticks, origin=origin, frequency=report.frequency))
+        if bounded:
+            told.append(partial(draw_clocks, ticks=report.ticks, origin=origin, frequency=report.frequency))
         if readings_of(report, *MARKERS):
             told.append(partial(draw_readings, report=report, origin=origin))
         if readings_of(report, "diff"):

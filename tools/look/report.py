@@ -1,4 +1,4 @@
-"""Reads a report of `rtt`, `estimate`, `ticks` or `replay`. Its lines stand in docs/FORMATS.md."""
+"""Reads a report of `rtt`, `estimate`, `ticks` or `replay`, of either version. Its lines stand in docs/FORMATS.md."""
 import re
 from collections import namedtuple
 
@@ -17,9 +17,12 @@ class Wrong(Exception):
 
 # The lines. Times, spreads and bounds are in grains, periods in grains a count, round trips in counts, the error of a
 # time in ns and that of a period in parts in 10^12. What a miss met is the oldest count of a tick, or the counter.
-Estimate = namedtuple("Estimate", "number count time period error rate_error marks spread low high flags")
+Estimate = namedtuple("Estimate", "number count time period error rate_error marks spread low high flags due total leap",
+                      defaults=(0, 0, 0))
 Base = namedtuple("Base", "number trip base start shifted")
 Refused = namedtuple("Refused", "line name")
+Set = namedtuple("Set", "count time")
+Leap = namedtuple("Leap", "count sign")
 Tick = namedtuple("Tick", "number how count time lerp slope boot clock_marks given update period error rate_error marks"
                   " due total leap")
 Reading = namedtuple("Reading", "reader attempt kind tick count time bound")
@@ -28,7 +31,8 @@ Miss = namedtuple("Miss", "reader attempt count met")
 
 KINDS = ("abs", "mono", "uptime", "fast", "diff", "back")
 HOWS = ("cold", "plain", "take", "jump", "reset")
-TESTS = ("backward", "server-backward", "overlap", "server-old", "long-trip", "acausal")
+TESTS = ("backward", "server-backward", "overlap", "server-old", "long-trip", "acausal", "unsynchronised", "before-set",
+         "set-old", "leap-old", "leap-pending", "leap-unannounced", "leap-limit")
 
 
 def number(piece):
@@ -65,6 +69,10 @@ def flags(piece):
     return piece
 
 
+def sign(piece):
+    return int(one_of("1", "-1")(piece))
+
+
 marks = one_of("-", "U", "W", "UW")
 kind = one_of(*KINDS)
 
@@ -73,6 +81,8 @@ LINES = {
     "estimate": (Estimate, (number, number, time, number, number, number, marks, number, number, number, flags)),
     "base": (Base, (number, number, number, number, number)),
     "refused": (Refused, (number, one_of(*TESTS))),
+    "set": (Set, (number, time)),
+    "leap": (Leap, (number, sign)),
     "tick": (Tick, (number, one_of(*HOWS), number, time, time, number, time, marks, time, number, number, number,
                     number, marks, number, signed, signed)),
     "read": (Reading, (number, number, kind, number, number, time, number)),
@@ -81,24 +91,29 @@ LINES = {
     "ahead": (Miss, (number, number, number, number)),
 }
 
-# The lines of a command, in the order of their parts.
+# The lines of a command, in the order of their parts, and those that only a report of version 2 has.
 PARTS = {
-    "rtt": (("base", "refused"),),
-    "estimate": (("estimate", "refused"),),
+    "rtt": (("base", "refused", "set", "leap"),),
+    "estimate": (("estimate", "refused", "set", "leap"),),
     "ticks": (("tick",),),
-    "replay": (("estimate", "refused"), ("tick",), ("read", "again", "old", "ahead")),
+    "replay": (("estimate", "refused", "set", "leap"), ("tick",), ("read", "again", "old", "ahead")),
 }
+SECOND = ("set", "leap")
+TOLD_LEAPS = (number, signed, signed)  # what an estimate of version 2 tells of leap seconds
 
 HEAD = re.compile(f"report (?:(rtt|estimate) freq ({NUMBER})|(ticks) freq ({NUMBER}) ticks {NUMBER}"
-                  f"|(replay) freq ({NUMBER}) ticks {NUMBER} readers {NUMBER} reads {NUMBER}(?: back)?(?: crank)?)")
+                  f"|(replay) freq ({NUMBER}) ticks {NUMBER} readers {NUMBER} reads {NUMBER}(?: back)?(?: crank)?)( version 2)?")
 
 
 class Report:
     """A whole report. Its lists are empty where the command tells no such lines."""
 
-    def __init__(self, command, frequency):
+    def __init__(self, command, frequency, version):
         self.command = command
         self.frequency = frequency
+        self.version = version
+        self.reached = 0  # the count of the last estimate or set
+        self.places = []  # how many accepted stamps came before each set
         self.lines = {word: [] for word in LINES}
         self.accepted = 0  # numbers of stamps
         self.refusals = 0
@@ -106,6 +121,8 @@ class Report:
     estimates = property(lambda self: self.lines["estimate"])
     bases = property(lambda self: self.lines["base"])
     refused = property(lambda self: self.lines["refused"])
+    sets = property(lambda self: self.lines["set"])
+    leaps = property(lambda self: self.lines["leap"])
     ticks = property(lambda self: self.lines["tick"])
     readings = property(lambda self: self.lines["read"])
     agains = property(lambda self: self.lines["again"])
@@ -116,7 +133,7 @@ class Report:
         return sum(len(self.lines[word]) for word in PARTS["replay"][-1])
 
     def tells(self, word):
-        return any(word in part for part in PARTS[self.command])
+        return any(word in part for part in PARTS[self.command]) and (self.version == 2 or word not in SECOND)
 
     def add(self, line):
         """Takes one line behind the head, that is not the end line."""
@@ -128,6 +145,7 @@ class Report:
         if any(self.lines[later] for part in parts[place + 1:] for later in part):
             raise Wrong(f"`{word}` stands too late")
         shape, readers = LINES[word]
+        readers += TOLD_LEAPS if word == "estimate" and self.version == 2 else ()
         if len(pieces) != len(readers):
             raise Wrong(f"`{word}` has {len(pieces)} values and not {len(readers)}")
         self.lines[word].append(shape(*(read(piece) for read, piece in zip(readers, pieces))))
@@ -139,8 +157,14 @@ class Report:
         last = lines[-1]
         if word in ("estimate", "base", "tick") and last.number != len(lines) - 1:
             raise Wrong(f"`{word} {last.number}` stands where {len(lines) - 1} is due")
-        if word in ("estimate", "tick") and len(lines) > 1 and last.count < lines[-2].count:
-            raise Wrong(f"the count of `{word} {last.number}` is below the one before")
+        if word == "tick" and len(lines) > 1 and last.count < lines[-2].count:
+            raise Wrong(f"the count of `tick {last.number}` is below the one before")
+        if word in ("estimate", "set"):
+            if last.count < self.reached:
+                raise Wrong(f"the count {last.count} of `{word}` is below the one before")
+            self.reached = last.count
+        if word == "set":
+            self.places.append(len(self.estimates or self.bases))
         if word in ("estimate", "tick") and last.period == 0 and getattr(last, "how", "") != "cold":
             raise Wrong(f"`{word} {last.number}` has no period")
         if word == "read" and last.tick >= len(self.ticks):
@@ -165,10 +189,11 @@ def head_of(line):
     found = HEAD.fullmatch(line)
     if not found:
         raise Wrong("no report of rtt, estimate, ticks or replay")
-    command, frequency = (piece for piece in found.groups() if piece is not None)
+    *pieces, version = found.groups()
+    command, frequency = (piece for piece in pieces if piece is not None)
     if not 1_000_000 <= int(frequency) <= 16_000_000_000:
         raise Wrong(f"no counter has {frequency} Hz here")
-    return Report(command, int(frequency))
+    return Report(command, int(frequency), 2 if version else 1)
 
 
 def read_report(text):

@@ -40,6 +40,17 @@ def last_estimate(report):
         yield from estimate_lines(last.update, last.given, last, report.frequency)
 
 
+def leap_lines(report):
+    """What the last estimate tells of leap seconds, and the sets, in a report of version 2."""
+    told = (report.estimates or report.ticks)[-1:]
+    for last in told:
+        coming = f", one more is {'inserted' if last.leap > 0 else 'deleted'} behind the count {last.due}" if last.leap else ""
+        yield "Leap seconds", f"{last.total:+d} so far{coming}" if last.total else f"none so far{coming}"
+    if report.tells("set"):
+        last = "".join(f", the last at the count {s.count} to {clock.date(clock.nanos_floor(s.time))}" for s in report.sets[-1:])
+        yield "Sets", f"{len(report.sets)}{last}"
+
+
 def stamp_lines(report):
     yield "Accepted", f"{report.accepted} exchanges"
     names = f": {by_name(TESTS, (r.name for r in report.refused))}" if report.refused else ""
@@ -73,6 +84,7 @@ def lines(report):
     """The lines of the summary."""
     told = [("Counter", f"{report.frequency} Hz")]
     told += last_estimate(report) if report.accepted else [("Time", "no estimate")]
+    told += leap_lines(report) if report.version == 2 else []
     told += stamp_lines(report)
     told += clock_lines(report)
     return [f"{name:<14}: {value}" for name, value in told]

@@ -18,7 +18,7 @@ from report import Wrong, read_report
 
 HERE = os.path.dirname(os.path.abspath(__file__))
 DATA = os.path.join(HERE, "testdata")
-SECOND = 2**64
+GRAINS = 2**64
 
 
 def data(name):
@@ -43,12 +43,12 @@ def look(words, text=None):
 
 def grains(text):
     seconds, rest = text.split("+")
-    return int(seconds) * SECOND + int(rest)
+    return int(seconds) * GRAINS + int(rest)
 
 
 def text_of(time):
-    seconds = math.floor(Fraction(time, SECOND))
-    return f"{seconds}+{time - seconds * SECOND}"
+    seconds = math.floor(Fraction(time, GRAINS))
+    return f"{seconds}+{time - seconds * GRAINS}"
 
 
 def hand_value(line, kind, count):
@@ -184,7 +184,7 @@ class At(unittest.TestCase):
         absolute, bound = hand_value(last, "abs", count), hand_bound(last, "abs", count)
         for name, time, rounded in (("absolute", absolute, math.floor), ("earliest", absolute - bound, math.floor),
                                     ("latest", absolute + bound, math.ceil)):
-            nanos = rounded(Fraction(time * 10**9, SECOND))
+            nanos = rounded(Fraction(time * 10**9, GRAINS))
             day = datetime(1970, 1, 1) + timedelta(seconds=nanos // 10**9)
             self.assertEqual(block[name], f"{day} UTC = {text_of(time)}".replace(" UTC", f".{nanos % 10**9:09d} UTC"))
 
@@ -212,13 +212,13 @@ class Summary(unittest.TestCase):
         self.assertIn(f"At the count  : {last[2]}\n", out)
         self.assertIn(f"Time bound    : {last[5]} ns\n", out)
         hertz = re.search(r"Frequency +: ([0-9.]+) Hz", out)[1]
-        self.assertAlmostEqual(float(hertz), SECOND / int(last[4]), 3)
+        self.assertAlmostEqual(float(hertz), GRAINS / int(last[4]), 3)
         self.assertIn("Accepted      : 24 exchanges\nRefused       : 0\nLevel shifts  : 0\n", out)
 
     def test_ticks_and_round_trips(self):
         out = look(["summary"], data("ticks.txt"))[1]
         last = data("ticks.txt").splitlines()[-2].split(" ")
-        ahead = Fraction((grains(last[5]) - grains(last[4])) * 10**9, SECOND)
+        ahead = Fraction((grains(last[5]) - grains(last[4])) * 10**9, GRAINS)
         told = re.search(r"Uninterrupted : (-?[0-9.]+) ns ahead", out)[1]
         self.assertLess(abs(Fraction(told) - ahead), Fraction(1, 1000))
         self.assertIn("Ticks         : cold 1, plain 46, take 23", out)
@@ -229,6 +229,59 @@ class Summary(unittest.TestCase):
         out = look(["summary"], text)[1]
         self.assertIn("Time          : no estimate\n", out)
         self.assertIn("Refused       : 3: overlap 2, acausal 1\n", out)
+
+
+# A report over a file of version 2: a leap second is to come, and then the clock is set.
+SECOND_HEAD = "report {} freq 1000000000{} version 2\n"
+SECOND_ESTIMATES = """\
+estimate 0 1000100000 1700000000+922337203600000 18446744072 50050 499999999 W 923259540800001 18437520700 18455967444 --- 0 0 0
+leap 20000000000 1
+estimate 1 17000100000 1700000016+922331527237072 18446744073 100002 6250101 W 1844700733050001 18446628782 18446859367 --- 20000000000 0 1
+set 18000000000 1800000000+0
+refused 7 before-set
+"""
+SECOND_TICKS = """\
+tick 0 cold 0 0+0 0+0 0 0+0 U 0+0 0 0 0 0 U 0 0 0
+tick 1 reset 0 0+0 0+0 18446744072 0+0 U 0+0 0 18446744072 0 0 U 0 0 0
+tick 2 jump 1000100000 1700000000+922337203600000 1700000000+922337203600000 18446744072 1699999998+18445821738215503232 W 1700000000+922337203600000 1000100000 18446744072 50050 499999999 W 0 0 0
+tick 3 take 17000100000 1700000016+922331527237072 1700000016+922309850774144 18446744074 1699999998+18445821738215503232 W 1700000016+922331527237072 17000100000 18446744073 100002 6250101 W 20000000000 0 1
+tick 4 reset 18000000000 1800000000+0 1800000000+0 18446744072 1800000000+0 U 1800000000+0 18000000000 18446744072 0 0 U 0 0 0
+"""
+SECOND = {
+    "estimate": SECOND_HEAD.format("estimate", "") + SECOND_ESTIMATES + "end accepted 2 refused 1\n",
+    "ticks": SECOND_HEAD.format("ticks", " ticks 0") + SECOND_TICKS + "end accepted 2 refused 1 ticks 5\n",
+    "rtt": SECOND_HEAD.format("rtt", "") + "base 0 100000 100000 0 0\nset 18000000000 1800000000+0\nend accepted 1 refused 0\n",
+    "replay": SECOND_HEAD.format("replay", " ticks 0 readers 0 reads 0 back") + SECOND_ESTIMATES + SECOND_TICKS
+    + "end accepted 2 refused 1 ticks 5 entries 0\n",
+}
+
+
+class SecondVersion(unittest.TestCase):
+    def test_summary(self):
+        out = look(["summary"], SECOND["estimate"])[1]
+        self.assertIn("Leap seconds  : none so far, one more is inserted behind the count 20000000000\n", out)
+        self.assertIn("Sets          : 1, the last at the count 18000000000 to 2027-01-15 08:00:00.000000000 UTC\n", out)
+        self.assertIn("Refused       : 1: before-set 1\n", out)
+        past = SECOND["estimate"].replace("20000000000 0 1", "0 -1 0")
+        self.assertIn("Leap seconds  : -1 so far\n", look(["summary"], past)[1])
+        self.assertIn("Sets          : 0\n", look(["summary"], re.sub("set .*\n", "", SECOND["rtt"], count=1))[1])
+        out = look(["summary"], SECOND["ticks"])[1]
+        self.assertIn("Ticks         : cold 1, take 1, jump 1, reset 2\n", out)
+        self.assertIn("Leap seconds  : none so far\n", out)
+
+    def test_at(self):
+        block = look(["at", "18000000000"], SECOND["ticks"])[1]
+        self.assertIn("count 18000000000 tick 4 reset\n", block)
+        self.assertIn("earliest      not bounded", block)
+
+    def test_the_first_version_has_none_of_it(self):
+        for name in ("estimate", "rtt", "replay"):
+            with self.assertRaises(Wrong):
+                read_report(SECOND[name].replace(" version 2", ""))
+        for old, new in (("20000000000 0 1", "20000000000 0"), ("set 18", "set 8"), ("leap 20000000000 1", "leap 20000000000 2"),
+                         (" version 2", " version 3"), (" version 2", " version 1"), ("before-set", "after-set")):
+            with self.assertRaises(Wrong, msg=new):
+                read_report(SECOND["estimate"].replace(old, new, 1))
 
 
 class WrongInput(unittest.TestCase):
@@ -302,6 +355,16 @@ class Plot(unittest.TestCase):
         for title in ("Round trips", "frequency, from nominal", "uninterrupted clock, from the absolute one",
                       "Readings, from the absolute clock", "Intervals that were read"):
             self.assertIn(title, drawn)
+
+    def test_sets_are_marked(self):
+        with tempfile.TemporaryDirectory() as folder:
+            words = ["-f", "-"]
+            for name in ("rtt", "ticks"):
+                path = os.path.join(folder, name)
+                with open(path, "w", encoding="ascii") as file:
+                    file.write(SECOND[name])
+                words += ["-f", path]
+            self.assertEqual(self.titles(words, SECOND["estimate"]).split().count("set"), 3)
 
     def test_no_more_is_drawn(self):
         self.assertNotIn("Readings", self.titles([], data("ticks.txt")))

@@ -1,5 +1,5 @@
 -- Pieces that are read from the front of a line.
-use Rattle.std.proofs.Common.{◌≡◌, ℕ, ◌+◌, ◌-◌, ◌<◌, ◌≤◌, ◌&&◌, ◌||◌, not, Bool, Option, None, IfSome, Result, Ok, subst, codes, replicate, length-drop, true, false, cond, eqb, zero, suc, List, [], ◌∷◌, ◌++◌, Some, Err, length, take, drop, get_or, refl, sym, ap, ◌∙◌, arith, add-one, drop-cons, append_assoc, length-append, length-take}
+use Rattle.std.proofs.Common.{◌≡◌, ℕ, ◌+◌, ◌-◌, ◌<◌, ◌≤◌, ◌&&◌, ◌||◌, not, Bool, None, Result, Ok, subst, codes, replicate, length-drop, true, false, cond, eqb, zero, suc, List, [], ◌∷◌, ◌++◌, Some, Err, length, take, drop, get_or, refl, sym, ap, ◌∙◌, arith, add-one, drop-cons, append_assoc, length-append, length-take}
 use Rattle.std.specs.List.{All, position_or_len}
 use Rattle.std.specs.Str.{bytes_eq}
 use Rattle.std.proofs.Math.Seq.{take-append_seam, drop-append-add}
@@ -188,11 +188,6 @@ stamp_first text r s t ta tf m n tb te q a b c last is count =
       stamp = stamp ∙ ap stamp_in (sym front);
       says = λ k late. ap (short_says false k) front ∙ line_says_stamp k line late inner (not_skipped a.piece (32 ∷ second) a.first.some a.first.plain) ∙ ap (λ r. item_at k (stamp_item r)) (sym stamp);
     }
-
--- a stamp line of version 1 is such a line
-pub line_of_stamp : {second : Bool} (text : List ℕ) (o : Option (Result Stamp Why × ℕ)) → second ≡ false → IfSome o (λ p. BeginsWithStamp text p.0 p.1) → IfSome o (λ p. BeginsWithLine second text p.0 p.1)
-line_of_stamp text None first line = tt
-line_of_stamp text (Some p) first line = record { within = line.within; room = line.room; inner = line.inner; says = λ n late. ap (λ v. short_says v n (take p.1 text)) first ∙ line.says n late }
 
 -- a number is no word
 no_word : (piece word : List ℕ) (w n : ℕ) → 57 < w → number_in piece ≡ Some n → bytes_eq piece (w ∷ word) ≡ false

@@ -143,18 +143,6 @@ fn second_after(ended: u64, second: bool, line: &[u8]) -> bool
     }
 }
 
-// What the stamp line says that a text begins with, and how many bytes it has.
-#[inline(always)]
-fn line_ahead(second: bool, text: &[u8]) -> Option<(Result<Stamp, Why>, usize)>
-    ensures { IfSome result (λ p. BeginsWithLine second text.now p.0 p.1) }
-{
-    if second {
-        second_ahead(text)
-    } else {
-        stamp_ahead(text)
-    }
-}
-
 impl Feed {
     ghost use Rattle.std.specs.List.{All};
     ghost use Rattle.stamp_text.specs.Format.{line_feed, line_limit};
@@ -255,7 +243,50 @@ impl Feed {
         let [b'0'..=b'9', ..] = more else {
             return None;
         };
-        let (answer, count) = line_ahead(self.second, more)?;
+        if self.second {
+            return self.second_line(more);
+        }
+        let (answer, count) = stamp_ahead(more)?;
+        self.end_line(more, answer, count)
+    }
+
+    // The same in a file of version 2.
+    #[inline(always)]
+    fn second_line(&mut self, more: &[u8]) -> Option<(usize, Line)>
+        requires second { self.old.second ≡ true }
+        requires sound { self.old.fault ≡ None }
+        requires empty { self.old.line ≡ [] }
+        requires late { 2 ≤ self.old.ended }
+        ensures within { IfSome result (λ p. p.0 ≤ length more.now) }
+        ensures goes_on { IfSome result (λ p. 0 < p.0) }
+        ensures sound { OnSome result (self.old.fault ≡ None) }
+        ensures in_turn { IfSome result
+            (λ p. AnswersInTurn self.old (take p.0 more.now) (Ok (Some p.1)) self.new) }
+        ensures none { IfNone result (self.new ≡ self.old) }
+    {
+        let (answer, count) = second_ahead(more)?;
+        self.end_line(more, answer, count)
+    }
+
+    // Takes the stamp line that the next bytes begin with, so many, if a line feed ends it.
+    #[inline(always)]
+    fn end_line(
+        &mut self,
+        more: &[u8],
+        answer: Result<Stamp, Why>,
+        count: usize,
+    ) -> Option<(usize, Line)>
+        requires sound { self.old.fault ≡ None }
+        requires empty { self.old.line ≡ [] }
+        requires late { 2 ≤ self.old.ended }
+        requires begins { BeginsWithLine self.old.second more.now answer count }
+        ensures within { IfSome result (λ p. p.0 ≤ length more.now) }
+        ensures goes_on { IfSome result (λ p. 0 < p.0) }
+        ensures sound { OnSome result (self.old.fault ≡ None) }
+        ensures in_turn { IfSome result
+            (λ p. AnswersInTurn self.old (take p.0 more.now) (Ok (Some p.1)) self.new) }
+        ensures none { IfNone result (self.new ≡ self.old) }
+    {
         if count >= more.len() || more[count] != b'\n' {
             return None;
         }

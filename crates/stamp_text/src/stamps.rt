@@ -175,9 +175,8 @@ pub fn stamp_ahead(text: &[u8]) -> Option<(Result<Stamp, Why>, usize)>
     Some((stamp_within_ranges(ta, tb, te, tf), before + count))
 }
 
-/// The same of version 2, with a stratum and a leap behind them. It stands by itself, so that the walk
-/// over lines of version 1 stays as short as it was.
-#[inline(never)]
+/// The same of version 2, with a stratum and a leap behind them.
+#[inline(always)]
 pub fn second_ahead(text: &[u8]) -> Option<(Result<Stamp, Why>, usize)>
     ensures { IfSome result (λ p. BeginsWithLine true text.now p.0 p.1) }
 {
