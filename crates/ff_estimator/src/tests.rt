@@ -243,12 +243,12 @@ fn told(fed: Fed) -> Option<(u64, i16, i8)> {
 #[test]
 fn leap_seconds_are_told_until_they_came(rt: HostRuntime) -> Result<(), Fail> {
     let mut daemon = Daemon::new(rt.alloc(), FREQ)?;
-    assert_eq!(rt; daemon.leap(20_000_000_000, 1), Err(Refused::LeapOld));
+    assert_eq!(rt; daemon.leap(17_000_100_000, 1), Err(Refused::LeapOld));
     let first = feed_behind(&mut daemon, &[], stamp_with(FIRST, 1));
     assert_eq!(rt; told(first), Some((0, 0, 0)));
-    assert_eq!(rt; daemon.leap(20_000_000_000, 1), Ok(()));
+    assert_eq!(rt; daemon.leap(17_000_100_000, 1), Ok(()));
     let second = feed_behind(&mut daemon, &[], stamp_with(SECOND, 0));
-    assert_eq!(rt; told(second), Some((20_000_000_000, 0, 1)));
+    assert_eq!(rt; told(second), Some((17_000_100_000, 0, 1)));
     assert_eq!(rt; daemon.leap(21_000_000_000, 1), Err(Refused::LeapPending));
     assert_eq!(rt; daemon.set(18_000_000_000), Ok(()));
     assert_eq!(rt; daemon.set(18_000_000_000), Err(Refused::SetOld));

@@ -1,5 +1,6 @@
 // Examples of the format and of the tests of a stamp, with answers from their rules.
 ghost use Rattle.std.specs.Prelude.{IfSome};
+ghost use Rattle.ff_grain.specs.Grains.{IsTime};
 ghost use Rattle.stamp_text.specs.Accepted.{IsInRange, IsItemInRange};
 
 use crate::{Feed, Head, Item, Line, LineFault, Past, Refused, Stamp, Why, accept};
@@ -46,7 +47,9 @@ fn stamp(text: &str) -> Option<Stamp>
     }
 }
 
-fn seconds(sec: u32) -> Bintime {
+fn seconds(sec: u32) -> Bintime
+    ensures { IsTime result }
+{
     from_nanos(u64::from(sec), 0)
 }
 
@@ -338,7 +341,7 @@ fn items_are_tested_behind_the_accepted_ones(rt: HostRuntime) {
         ("17000000000 1700000016 1700000016 17000100000 1 0", Ok(())),
         ("set 18000000000 1800000000", Ok(())),
         (
-            "17500000000 1700000017 1700000017 18500000000 1 0",
+            "18000000000 1700000017 1700000017 18500000000 1 0",
             Err(Refused::BeforeSet),
         ),
         ("set 18000000000 5", Err(Refused::SetOld)),
@@ -348,8 +351,50 @@ fn items_are_tested_behind_the_accepted_ones(rt: HostRuntime) {
             "19000000000 1700000018 1700000018 19000100000 16 0",
             Err(Refused::Unsynchronised),
         ),
+        (
+            "19000000000 1700000018 1700000018 19000100000 0 0",
+            Err(Refused::Unsynchronised),
+        ),
+        (
+            "19000000000 1700000018 1700000018 19000100000 1 3",
+            Err(Refused::Unsynchronised),
+        ),
+        (
+            "18000000000 1700000018 1700000018 19000100000 16 0",
+            Err(Refused::LongTrip),
+        ),
+        ("19000000000 1700000018 1700000018 20000000000 15 2", Ok(())),
+        ("set 20000000000 5", Err(Refused::SetOld)),
+        ("leap 20000000001 -1", Err(Refused::LeapPending)),
+        ("20000000001 1700000020 1700000020 20000000002 15 2", Ok(())),
+        ("leap 20000000003 1", Err(Refused::LeapUnannounced)),
+        ("leap 20000000003 -1", Ok(())),
+        ("set 20000000003 5", Ok(())),
     ];
     for (text, verdict) in rows {
         assert_eq!(rt; told(&mut past, text), Some(verdict), "at {text}");
+    }
+}
+
+#[test]
+fn a_hundred_leap_seconds_are_taken(rt: HostRuntime) {
+    let mut past = Past::new();
+    for i in 0..101u32 {
+        let ta = u64::from(i) * 1000;
+        let stamp = Stamp {
+            ta,
+            tb: seconds(i),
+            te: seconds(i),
+            tf: ta + 500,
+            stratum: 1,
+            leap: 1,
+        };
+        assert_eq!(rt; past.stamp(&stamp, FREQ), Ok(()));
+        let wanted = if i < 100 {
+            Ok(())
+        } else {
+            Err(Refused::LeapLimit)
+        };
+        assert_eq!(rt; past.leap(ta + 900, 1), wanted);
     }
 }
