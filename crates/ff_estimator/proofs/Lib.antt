@@ -7,5 +7,8 @@ pub mod Newest
 pub mod Taken
 pub mod Sane
 pub mod Folds
+pub mod LeapLaws
+pub mod Daemons
+pub mod Events
 pub mod WholeRuns
 pub mod WeighingLaws

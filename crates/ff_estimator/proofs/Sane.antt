@@ -1,5 +1,5 @@
 -- The estimate at each accepted stamp is sane.
-use Rattle.std.proofs.Common.{◌≡◌, ℕ, zero, suc, ◌+◌, ◌-◌, ◌*◌, ◌<◌, ◌≤◌, ◌^◌, Bool, true, false, cond, ℤ, pos, ◌≤ℤ◌, ◌<ℤ◌, max, List, [], ◌∷◌, length, get_or, take, drop, slice_range, sum_by, Option, None, Some, IfSome, refl, arith, length-take}
+use Rattle.std.proofs.Common.{◌≡◌, inl, ℕ, zero, suc, ◌+◌, ◌-◌, ◌*◌, ◌<◌, ◌≤◌, ◌^◌, Bool, true, false, cond, ℤ, pos, ◌≤ℤ◌, ◌<ℤ◌, max, List, [], ◌∷◌, length, get_or, take, drop, slice_range, sum_by, Option, None, Some, IfSome, refl, arith, length-take}
 use Rattle.std.specs.List.{All}
 use Rattle.std.proofs.Math.Nat.{mul-le-mul_left}
 use Rattle.std.proofs.lemmas.Int.{ints}
@@ -36,7 +36,7 @@ use Rattle.ff_estimator.proofs.Taken.{sane-from}
 
 -- what a list is read by
 abbrev blank : Stamp
-blank = record { ta = 0; tb = start_time; te = start_time; tf = 0 }
+blank = record { ta = 0; tb = start_time; te = start_time; tf = 0; stratum = 0; leap = 0 }
 
 pub count-is : (all : List Stamp) (i : ℕ) (d : Stamp) → i < length all → count_at all i ≡ (get_or all i d).tf
 count-is all i d here = get_or-map (λ s. s.tf) all i d 0 here
@@ -161,4 +161,4 @@ full-sane freq all i low are here =
     let taken : IsTakenBounded (taken_at freq all i) (count_at all i) = taken-bounded freq all (suc i) low are (omega arith) in
     let time = number_of-of_grains (taken_at freq all i).time in
     let sane : IsSane (full_at freq all i).est = record { update = update; period = omega (arith, is.high, is.highest, most); low = rw time taken.low; high = rw time (omega (arith, ints, taken.high, update)) } in
-    sane-from (full_at freq all i).est sane refl refl
+    sane-from (full_at freq all i).est sane (omega arith) (inl refl)

@@ -1,6 +1,9 @@
 -- What a daemon keeps, and which accepted stamps that stands for.
-use Rattle.std.specs.Prelude.{◌≡◌, ℕ, ℤ, ◌+◌, ◌-◌, ◌*◌, ◌^◌, ◌≤◌, pos, ◌≤ℤ◌, max, if◌then◌else◌, List, length, map, drop, Option, None, Some}
+use Rattle.std.specs.Prelude.{◌≡◌, ℕ, ℤ, ◌+◌, ◌-◌, ◌*◌, ◌^◌, ◌≤◌, pos, ◌≤ℤ◌, max, if◌then◌else◌, List, length, map, drop, Option, None, Some, IfSome}
+use Rattle.std.specs.Option.{option_map}
 use Rattle.stamp_text.specs.Accepted.{last_of}
+use Rattle.stamp_text.specs.Past.{Seen, seen_of, stamps_of}
+use Rattle.stamp_text.specs.declared.lines.Item.{Item}
 use Rattle.stamp_text.specs.declared.lines.Stamp.{Stamp}
 use Rattle.rtt_window.specs.Windows as windows
 use Rattle.rtt_window.specs.Pairs.{pair_of}
@@ -10,18 +13,29 @@ use Rattle.offset_weights.specs.Means.{mean_of}
 use Rattle.ff_estimator.specs.Rates.{rate_by, uses_local}
 use Rattle.ff_estimator.specs.Terms.{term_of}
 use Rattle.ff_estimator.specs.Choices.{chosen, predicted_by, taken_before}
+use Rattle.ff_estimator.specs.Leaps.{AreFew, fields_at, fields_kept, leaps_of}
+use Rattle.ff_estimator.specs.declared.leaps.Leaps.{Leaps}
 use Rattle.ff_estimator.specs.declared.rates.Rates.{Rates}
 use Rattle.ff_estimator.specs.declared.choices.Taken.{Taken}
 
--- the window of the last stamps, and what was taken at the newest one
+-- the window of the last stamps, what was taken at the newest one, what the tests of one more item ask for,
+-- and the leap seconds
 pub record Kept : Type 0 where
   pub window : windows.Kept
   pub taken : Taken
+  pub past : Seen
+  pub leaps : Leaps
 
--- a daemon that keeps this may have accepted these stamps, at this frequency
-pub record StandsFor (k : Kept) (freq : ℕ) (all : List Stamp) : Type 0 where
-  pub window : windows.StandsFor k.window freq all
-  pub taken : k.taken ≡ taken_before freq all (length all)
+-- the leap seconds that are kept tell at each count from the latest reply on what all of these tell
+abbrev pub AreLeapsOf : Leaps → List Item → Type 0
+AreLeapsOf k items = (count : ℕ) → IfSome (seen_of items).stamp (λ s. s.tf ≤ count) → fields_at (leaps_of items) count ≡ fields_kept k count
+
+-- a daemon that keeps this may have accepted these items, at this frequency
+pub record StandsFor (k : Kept) (freq : ℕ) (items : List Item) : Type 0 where
+  pub window : windows.StandsFor k.window freq (stamps_of items)
+  pub taken : k.taken ≡ taken_before freq (stamps_of items) (length (stamps_of items))
+  pub past : k.past ≡ seen_of items
+  pub leaps : AreLeapsOf k.leaps items
 
 -- the credit of a daemon, that of its window: the steps that it may still take beside twelve for each
 -- stamp that it is fed
@@ -60,3 +74,7 @@ pub record Holds (k : Kept) (freq : ℕ) : Type 0 where
   pub low : 1000000 ≤ freq
   pub high : freq ≤ 16000000000
   pub bounded : IsTakenBounded k.taken (count_of (last_of k.window.stamps))
+  pub newest : k.past.stamp ≡ last_of k.window.stamps
+  pub latest : option_map (λ l. l.count) k.leaps.latest ≡ k.past.leap
+  pub few : AreFew k.leaps k.past.leaps
+  pub hundred : k.past.leaps ≤ 100

@@ -1,8 +1,7 @@
 -- The estimate at each accepted stamp, over the whole list of them.
-use Rattle.std.specs.Prelude.{ℕ, pos, ◌*◌, min, nat_lt, Bool, List, [], ◌∷◌, ◌++◌, length, Result, Ok, Err}
+use Rattle.std.specs.Prelude.{ℕ, pos, ◌*◌, min, nat_lt, Bool, List, Result, Ok, Err}
 use Rattle.std.specs.Int.{div_ceil}
 use Rattle.ff_grain.specs.Grains.{of_grains}
-use Rattle.stamp_text.specs.Accepted.{accept_of, last_of}
 use Rattle.stamp_text.specs.declared.accepts.Refused.{Refused}
 use Rattle.stamp_text.specs.declared.lines.Stamp.{Stamp}
 use Rattle.rtt_window.specs.Bases.{base_at}
@@ -51,6 +50,3 @@ full_at freq all i = full_of i (count_at all i) (global_rate freq all i) (base_a
 abbrev pub fed_by : Result (Unit {0}) Refused → Full → Fed
 fed_by (Ok o) full = fed.Estimate full
 fed_by (Err why) full = fed.Refused why
-
-abbrev pub fed_of : ℕ → List Stamp → Stamp → Fed
-fed_of freq all s = fed_by (accept_of (last_of all) s freq) (full_at freq (all ++ s ∷ []) (length all))

@@ -4,6 +4,8 @@ pub mod Means
 pub mod Choices
 pub mod Estimates
 pub mod Folds
+pub mod Leaps
+pub mod Events
 pub mod Daemons
 pub mod Runs
 pub mod Weighings

@@ -1,32 +1,41 @@
 // The daemon.
 ghost use Rattle.std.specs.Prelude.{◌≡◌, ◌<◌, ◌≤◌, ◌-◌, ◌+◌, ◌*◌, ◌^◌, ℕ, List, [], ◌∷◌, ◌++◌, length, Ok, IfOk, IfSome, pos, ◌≤ℤ◌, ◌<ℤ◌};
 ghost use Rattle.std.specs.List.{All};
-ghost use Rattle.stamp_text.specs.Accepted.{accepted_all, IsInRange, accept_of, accepted_with, last_of};
+ghost use Rattle.std.specs.Prelude.{OnErr};
+ghost use Rattle.ff_grain.specs.declared.bintime.Bintime.{Bintime};
+ghost use Rattle.stamp_text.specs.Accepted.{IsInRange, IsLeapInRange, accepted_with, last_of};
+ghost use Rattle.stamp_text.specs.Past.{accept_item};
+ghost use Rattle.stamp_text.specs.declared.lines.Item.{Item};
+ghost use Rattle.stamp_text.specs.declared.lines.Item.TheVariants as item;
 ghost use Rattle.stamp_text.specs.declared.accepts.Refused.{Refused};
 ghost use Rattle.stamp_text.specs.declared.lines.Stamp.{Stamp};
 ghost use Rattle.rate_pair.specs.Rates.{IsRate};
-ghost use Rattle.ff_estimator.specs.Estimates.{full_at, fed_of};
+ghost use Rattle.ff_estimator.specs.Events.{fed_of};
 ghost use Rattle.ff_estimator.specs.Daemons.{StandsFor, IsTakenBounded, count_of, mean_kept, taken_kept, credit};
 ghost use Rattle.ff_estimator.specs.Runs.{IsPaid};
 
 use crate::choices::{Taken, chosen, predicted_by};
-use crate::fulls::{Fed, Full, full_of};
+use crate::fulls::{Fed, full_of, with_leaps};
+use crate::leaps::{Leaps, fields_kept, leaps_with, no_leaps};
 use crate::means::mean;
 use crate::rates::{PairRate, Rates, rates_at};
 use ff_grain::NoMemory;
 use rate_pair::Rate;
 use rtt_window::{Base, Window};
-use stamp_text::{Refused, Stamp, accept};
+use stamp_text::{Past, Refused, Stamp};
 use std::alloc::Global;
 use std::marker::Model;
 use std::sync::ledger::Ledger;
 use step_count::Steps;
 
-/// The daemon: it keeps the last accepted stamps and what was taken at the newest one.
+/// The daemon: it keeps the last accepted stamps, what was taken at the newest one, and the leap seconds.
 #[derive(Drop)]
 pub struct Daemon {
     window: Window,
     taken: Taken,
+    // The accepted items, as far as tests ask for them.
+    past: Past,
+    leaps: Leaps,
     freq: u64,
     // The rates of the last pairs.
     far: Option<PairRate>,
@@ -38,9 +47,9 @@ impl Model for Daemon {
 
     ghost Value = { Kept };
 
-    ghost view = { λ d. record { window = d.window; taken = d.taken } };
+    ghost view = { λ d. record { window = d.window; taken = d.taken; past = d.past; leaps = d.leaps } };
 
-    ghost invariant = { λ d. Holds (record { window = d.window; taken = d.taken }) d.freq };
+    ghost invariant = { λ d. Holds (record { window = d.window; taken = d.taken; past = d.past; leaps = d.leaps }) d.freq };
 }
 
 /// The stamps that a mean is taken over, at most.
@@ -144,28 +153,34 @@ impl Daemon {
         Ok(Daemon {
             window: Window::new(alloc, freq)?,
             taken,
+            past: Past::new(),
+            leaps: no_leaps(),
             freq,
             far: None,
             near: None,
         })
     }
 
-    // Tests a stamp against the newest one.
-    fn test(&self, s: &Stamp) -> Result<(), Refused>
-        requires { IsInRange s.now }
-        ensures { result ≡ accept_of (last_of self.now.window.stamps) s.now self.now.window.freq }
-    {
-        accept(newest(&self.window).as_ref(), s, self.freq)
-    }
-
-    // The estimate at a stamp that is accepted behind the newest one.
-    fn estimate<L: Ledger>(&mut self, s: Stamp, steps: &mut Steps<L>) -> Full
-        requires timed { IsInRange s }
-        requires accepted { accept_of (last_of self.old.window.stamps) s self.old.window.freq ≡ Ok tt }
-        ensures stands { (freq : ℕ) (all : List Stamp) → StandsFor self.old freq all → StandsFor self.new freq (all ++ s ∷ []) }
-        ensures value { (freq : ℕ) (all : List Stamp) → StandsFor self.old freq all → result ≡ full_at freq (all ++ s ∷ []) (length all) }
+    /// Takes the next stamp: refuses it by the first of its eight tests that holds behind the accepted
+    /// items, and is then unchanged, or answers the estimate at it, with what the leap seconds before it
+    /// tell.
+    ///
+    /// Its counters are below 2^62, and its times from 0 to below 2^32 s. After the algorithm of
+    /// Veitch, Ridoux and Korada.
+    ///
+    /// A step is one comparison of two round trips. The steps and the credit together rise by twelve
+    /// at most, so in the long run a stamp takes twelve steps. One that is refused takes none.
+    pub fn feed<L: Ledger>(&mut self, s: Stamp, steps: &mut Steps<L>) -> Fed
+        requires { IsInRange s }
+        ensures answer { (freq : ℕ) (items : List Item) → StandsFor self.old freq items → result ≡ fed_of freq items s }
+        ensures stands { (freq : ℕ) (items : List Item) → StandsFor self.old freq items → StandsFor self.new freq (accepted_with items (item.Stamp s) (accept_item freq items (item.Stamp s))) }
+        ensures refused { (why : Refused) → result ≡ Fed.Refused why → self.new ≡ self.old }
+        ensures uncounted { (why : Refused) → result ≡ Fed.Refused why → steps.new ≡ steps.old }
         ensures paid { IsPaid self.old (record { before = steps.old; after = steps.new }) self.new }
     {
+        if let Err(why) = self.past.stamp(&s, self.freq) {
+            return Fed::Refused(why);
+        }
         let before = newest_count(&self.window);
         let base = self.window.add(s, steps);
         let rates = rates_at(&self.window, self.freq, &mut self.far, &mut self.near);
@@ -179,42 +194,34 @@ impl Daemon {
             &self.taken,
         );
         let i = self.window.count() - 1;
-        full_of(i, s.tf, &rates, base.shifted, &self.taken, self.freq)
+        let full = full_of(i, s.tf, &rates, base.shifted, &self.taken, self.freq);
+        Fed::Estimate(with_leaps(fields_kept(&self.leaps, s.tf), full))
     }
 
-    /// Takes the next stamp: refuses it by the first test that it fails behind the newest accepted
-    /// one, and is then unchanged, or answers the estimate at it.
-    ///
-    /// Its counters are below 2^62, and its times from 0 to below 2^32 s. After the algorithm of
-    /// Veitch, Ridoux and Korada.
-    ///
-    /// A step is one comparison of two round trips. The steps and the credit together rise by twelve
-    /// at most, so in the long run a stamp takes twelve steps. One that is refused takes none.
-    pub fn feed<L: Ledger>(&mut self, s: Stamp, steps: &mut Steps<L>) -> Fed
-        requires { IsInRange s }
-        ensures answer { (freq : ℕ) (all : List Stamp) → StandsFor self.old freq all → result ≡ fed_of freq all s }
-        ensures stands { (freq : ℕ) (all : List Stamp) → StandsFor self.old freq all → StandsFor self.new freq (accepted_with all s (accept_of (last_of all) s freq)) }
-        ensures refused { (why : Refused) → result ≡ Fed.Refused why → self.new ≡ self.old }
-        ensures uncounted { (why : Refused) → result ≡ Fed.Refused why → steps.new ≡ steps.old }
-        ensures paid { IsPaid self.old (record { before = steps.old; after = steps.new }) self.new }
+    /// Takes a set of the clock at a count: refuses it where it does not come behind the accepted stamps
+    /// and sets, and is then unchanged. It says nothing of the time, and takes no steps.
+    pub fn set(&mut self, count: u64) -> Result<(), Refused>
+        ensures answer { (freq : ℕ) (items : List Item) (at : Bintime) → StandsFor self.old freq items → result ≡ accept_item freq items (item.Set count at) }
+        ensures stands { (freq : ℕ) (items : List Item) (at : Bintime) → StandsFor self.old freq items → StandsFor self.new freq (accepted_with items (item.Set count at) result) }
+        ensures refused { OnErr result (self.new ≡ self.old) }
+        ensures credit { credit self.new ≡ credit self.old }
     {
-        match self.test(&s) {
-            Ok(()) => Fed::Estimate(self.estimate(s, steps)),
-            Err(why) => Fed::Refused(why),
-        }
+        self.past.set(count)
     }
 
-    /// Takes these stamps one after another, for what it keeps of them alone.
+    /// Takes a leap second behind a count: refuses it by the first of its four tests that holds behind the
+    /// accepted items, and is then unchanged. It takes no steps.
     ///
-    /// On a new daemon n stamps take 12n steps at most.
-    pub fn feed_all<L: Ledger>(&mut self, stamps: &[Stamp], steps: &mut Steps<L>)
-        requires { All IsInRange stamps.now }
-        ensures stands { (freq : ℕ) (all : List Stamp) → StandsFor self.old freq all → StandsFor self.new freq (accepted_all freq all stamps.now) }
-        ensures credit { steps.new + credit self.new ≤ steps.old + credit self.old + 12 * length stamps.now }
-        ensures new { (freq : ℕ) → StandsFor self.old freq [] → steps.new ≤ steps.old + 12 * length stamps.now }
+    /// It is put in where `leap` is 1, and left out where it is -1.
+    pub fn leap(&mut self, count: u64, leap: i8) -> Result<(), Refused>
+        requires range { IsLeapInRange count leap }
+        ensures answer { (freq : ℕ) (items : List Item) → StandsFor self.old freq items → result ≡ accept_item freq items (item.Leap count leap) }
+        ensures stands { (freq : ℕ) (items : List Item) → StandsFor self.old freq items → StandsFor self.new freq (accepted_with items (item.Leap count leap) result) }
+        ensures refused { OnErr result (self.new ≡ self.old) }
+        ensures credit { credit self.new ≡ credit self.old }
     {
-        for s in stamps {
-            self.feed(*s, steps);
-        }
+        self.past.leap(count, leap)?;
+        self.leaps = leaps_with(&self.leaps, count, leap);
+        Ok(())
     }
 }

@@ -2,9 +2,11 @@
 ghost use Rattle.std.specs.Prelude.{◌≡◌, ◌<◌, ◌≤◌, ◌^◌, ℕ, pos, ◌≤ℤ◌, ◌<ℤ◌, List, ◌++◌, length};
 ghost use Rattle.stamp_text.specs.declared.lines.Stamp.{Stamp};
 ghost use Rattle.rate_pair.specs.Rates.{IsRate};
+ghost use Rattle.ff_estimator.specs.Events.{with_leaps};
 ghost use Rattle.ff_estimator.specs.Estimates.{nanos_of, rate_parts, estimate_of, full_of, full_at};
 
 use crate::choices::Taken;
+use crate::leaps::LeapFields;
 use crate::rates::Rates;
 use ff_grain::Bintime;
 use ff_hands::{Estimate, Marks};
@@ -30,10 +32,19 @@ pub struct Full {
 /// What the daemon answers to a stamp.
 #[derive(Clone, Copy, Debug, PartialEq, Eq)]
 pub enum Fed {
-    /// The stamp is not accepted: the first test that it fails.
+    /// The stamp is not accepted: the first test that holds.
     Refused(Refused),
     /// The estimate at the stamp.
     Estimate(Full),
+}
+
+/// What an accepted item says to a clock.
+#[derive(Clone, Copy, Debug, PartialEq, Eq)]
+pub enum Event {
+    /// The estimate at a stamp.
+    Estimate(Full),
+    /// The clock is set to a time at a count.
+    Set { count: u64, at: Bintime },
 }
 
 /// The grains of a second.
@@ -108,6 +119,21 @@ pub fn full_of(i: u64, count: u64, rates: &Rates, shifted: bool, t: &Taken, freq
         shifted,
         local: rates.local,
         predicted: t.predicted,
+    }
+}
+
+/// The same with what is told of leap seconds.
+pub fn with_leaps(fields: LeapFields, full: Full) -> Full
+    ensures { result ≡ with_leaps fields full }
+{
+    Full {
+        est: Estimate {
+            leapsec_next: fields.next,
+            leapsec_total: fields.total,
+            leapsec: fields.sign,
+            ..full.est
+        },
+        ..full
     }
 }
 

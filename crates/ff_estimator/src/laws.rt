@@ -1,15 +1,23 @@
 // What holds of all that is said of accepted stamps, and of whole runs.
-ghost use Rattle.std.specs.Prelude.{◌≡◌, ℕ, ◌*◌, ◌<◌, ◌≤◌, List, [], ◌∷◌, ◌++◌, length, map, slice_get, Some, sum_by};
+ghost use Rattle.std.specs.Prelude.{◌≡◌, ℕ, ℤ, Ok, ◌*◌, ◌<◌, ◌≤◌, List, [], ◌∷◌, ◌++◌, length, map, slice_get, Some, sum_by};
 ghost use Rattle.std.specs.List.{All};
-ghost use Rattle.stamp_text.specs.Accepted.{IsInRange, AreAccepted, accept_of, accepted_with, last_of};
+ghost use Rattle.std.specs.Option.{option_to_list};
+ghost use Rattle.ff_grain.specs.declared.bintime.Bintime.{Bintime};
+ghost use Rattle.stamp_text.specs.Accepted.{IsInRange, IsLeapInRange, IsSetInRange, AreAccepted, accepted_with};
+ghost use Rattle.stamp_text.specs.Past.{AreAcceptedItems, accept_item, counts_of, stamps_of};
 ghost use Rattle.stamp_text.specs.declared.accepts.Refused.{Refused};
+ghost use Rattle.stamp_text.specs.declared.lines.Item.{Item};
+ghost use Rattle.stamp_text.specs.declared.lines.Item.TheVariants as item;
 ghost use Rattle.stamp_text.specs.declared.lines.Stamp.{Stamp};
 ghost use Rattle.rate_pair.specs.Rates.{IsRate};
 ghost use Rattle.ff_estimator.specs.Daemons.{Kept, StandsFor};
-ghost use Rattle.ff_estimator.specs.Estimates.{full_at, fed_of};
-ghost use Rattle.ff_estimator.specs.Folds.{fold_of, estimates_of, AreOf, AreTaken};
+ghost use Rattle.ff_estimator.specs.Estimates.{full_at};
+ghost use Rattle.ff_estimator.specs.Events.{AreInTurn, AreOf, count_of_event, event_behind, events_of, fed_of, fulls_of, without_leaps};
+ghost use Rattle.ff_estimator.specs.Folds.{fold_of};
 ghost use Rattle.ff_estimator.specs.Rates.{rate_over, rate_in_use};
 ghost use Rattle.ff_estimator.specs.Runs.{FeedCost, ArePaid, raised};
+ghost use Rattle.ff_estimator.specs.declared.fulls.Event.{Event};
+ghost use Rattle.ff_estimator.specs.declared.fulls.Event.TheVariants as event;
 ghost use Rattle.ff_estimator.specs.declared.fulls.Full.{Full};
 ghost use Rattle.ff_estimator.specs.declared.fulls.Fed.TheVariants as fed;
 
@@ -21,16 +29,43 @@ pub fn folds_grow()
         fold_of freq all ++ full_at freq (all ++ s ∷ []) (length all) ∷ [] }
 {}
 
-/// The law that what a daemon says goes on being that of one daemon: of no stamp, of one more that it
-/// accepts, whose estimate is put behind the others, and of one that it refuses.
-pub fn estimates_are_of_one_daemon()
+/// The law that one more accepted item adds to what was said what it says itself, and changes nothing
+/// before it: an estimate depends on the items up to its stamp alone.
+pub fn events_grow()
+    ensures { (freq : ℕ) (items : List Item) (x : Item) →
+        events_of freq (items ++ x ∷ []) ≡
+        events_of freq items ++ option_to_list (event_behind freq items x) }
+{}
+
+/// The law that the events of one daemon go on being those of its accepted items: of none, of one more
+/// stamp that it accepts, whose estimate is put behind the others, of one that it refuses, of one more
+/// set, which is put behind the others, and of one more leap second.
+pub fn events_are_of_one_daemon()
     ensures none { (freq : ℕ) → AreOf [] freq [] }
-    ensures estimate { (freq : ℕ) (all : List Stamp) (s : Stamp) (fulls : List Full) (full : Full) →
-        IsInRange s → AreOf fulls freq all → fed.Estimate full ≡ fed_of freq all s →
-        AreOf (fulls ++ full ∷ []) freq (accepted_with all s (accept_of (last_of all) s freq)) }
-    ensures refused { (freq : ℕ) (all : List Stamp) (s : Stamp) (fulls : List Full) (why : Refused) →
-        AreOf fulls freq all → fed.Refused why ≡ fed_of freq all s →
-        AreOf fulls freq (accepted_with all s (accept_of (last_of all) s freq)) }
+    ensures estimate { (freq : ℕ) (items : List Item) (s : Stamp) (events : List Event) (full : Full) →
+        IsInRange s → AreOf events freq items → fed.Estimate full ≡ fed_of freq items s →
+        AreOf (events ++ event.Estimate full ∷ []) freq
+        (accepted_with items (item.Stamp s) (accept_item freq items (item.Stamp s))) }
+    ensures refused { (freq : ℕ) (items : List Item) (s : Stamp) (events : List Event) (why : Refused) →
+        AreOf events freq items → fed.Refused why ≡ fed_of freq items s →
+        AreOf events freq (accepted_with items (item.Stamp s) (accept_item freq items (item.Stamp s))) }
+    ensures set { (freq : ℕ) (items : List Item) (count : ℕ) (at : Bintime) (events : List Event) →
+        IsSetInRange count at → AreOf events freq items →
+        accept_item freq items (item.Set count at) ≡ Ok tt →
+        AreOf (events ++ event.Set count at ∷ []) freq (items ++ item.Set count at ∷ []) }
+    ensures leap { (freq : ℕ) (items : List Item) (count : ℕ) (leap : ℤ) (events : List Event) →
+        IsLeapInRange count leap → AreOf events freq items →
+        accept_item freq items (item.Leap count leap) ≡ Ok tt →
+        AreOf events freq (items ++ item.Leap count leap ∷ []) }
+{}
+
+/// The law that the estimates of accepted items are those of their stamps, but for what they tell of leap
+/// seconds, and that the events have the counts of the replies and of the sets, in their order.
+pub fn events_tell_the_fold()
+    ensures fold { (freq : ℕ) (items : List Item) →
+        map without_leaps (fulls_of (events_of freq items)) ≡ fold_of freq (stamps_of items) }
+    ensures counts { (freq : ℕ) (items : List Item) →
+        map count_of_event (events_of freq items) ≡ counts_of items }
 {}
 
 /// The law that one thing is said at each accepted stamp, and its estimate is of the count of the stamp's
@@ -42,10 +77,10 @@ pub fn each_stamp_has_an_estimate()
         map (λ f. f.est.update_ffcount) (fold_of freq all) ≡ map (λ s. s.tf) all }
 {}
 
-/// The law that a clock can take the estimates of accepted stamps one after another.
-pub fn estimates_can_be_taken()
-    ensures { (freq : ℕ) (all : List Stamp) → 1000000 ≤ freq → AreAccepted freq all →
-        AreTaken (estimates_of (fold_of freq all)) }
+/// The law that a clock can go by the events of accepted items one after another.
+pub fn events_come_in_turn()
+    ensures { (freq : ℕ) (items : List Item) → 1000000 ≤ freq → AreAcceptedItems freq items →
+        AreInTurn freq (events_of freq items) }
 {}
 
 /// The law that the rates at accepted stamps are within their bounds: that which is said, that over the

@@ -5,6 +5,7 @@ mod choices;
 mod daemon;
 mod fulls;
 mod laws;
+mod leaps;
 mod means;
 mod rates;
 #[cfg(test)]
@@ -13,8 +14,8 @@ mod weighings;
 
 pub use choices::first_has_mean;
 pub use daemon::Daemon;
-pub use fulls::{Fed, Full, estimates_stay};
+pub use fulls::{Event, Fed, Full, estimates_stay};
 pub use laws::{
-    a_stamp_takes_twelve_steps, each_stamp_has_an_estimate, estimates_are_of_one_daemon,
-    estimates_can_be_taken, folds_grow, rates_are_believed,
+    a_stamp_takes_twelve_steps, each_stamp_has_an_estimate, events_are_of_one_daemon,
+    events_come_in_turn, events_grow, events_tell_the_fold, folds_grow, rates_are_believed,
 };

@@ -24,6 +24,9 @@ fn is_same(a: &Stamp, b: &Stamp) -> bool
     if a.ta != b.ta || a.tf != b.tf || !is_same_time(&a.tb, &b.tb) {
         return false;
     }
+    if a.stratum != b.stratum || a.leap != b.leap {
+        return false;
+    }
     is_same_time(&a.te, &b.te)
 }
 

@@ -44,6 +44,8 @@ fn stamp_of(columns: Columns) -> Stamp
         tb: from_nanos(u64::from(tb), 0),
         te: from_nanos(u64::from(te.0), te.1.min(999_999_999)),
         tf: tf.min(MOST),
+        stratum: 1,
+        leap: 0,
     }
 }
 
@@ -56,7 +58,9 @@ fn feed_under<L: Ledger>(daemon: &mut Daemon, before: &[Stamp], s: Stamp, blank:
     requires some { 0 < blank.parts }
 {
     let mut steps = Steps::<L>::new(blank);
-    daemon.feed_all(before, &mut steps);
+    for one in before {
+        daemon.feed(*one, &mut steps);
+    }
     daemon.feed(s, &mut steps)
 }
 
@@ -204,5 +208,51 @@ fn stamps_at_the_limits_are_accepted(rt: HostRuntime) -> Result<(), Fail> {
         );
         assert_eq!(rt; accepted, true);
     }
+    Ok(())
+}
+
+const THIRD: Columns = (
+    33_000_000_000,
+    1_700_000_032,
+    (1_700_000_032, 0),
+    33_000_100_000,
+);
+
+// A stamp of a server that says of a leap second what `leap` is.
+fn stamp_with(columns: Columns, leap: u32) -> Stamp
+    ensures { IsInRange result }
+{
+    Stamp {
+        leap,
+        ..stamp_of(columns)
+    }
+}
+
+// What an estimate tells of leap seconds.
+fn told(fed: Fed) -> Option<(u64, i16, i8)> {
+    match fed {
+        Fed::Estimate(full) => Some((
+            full.est.leapsec_next,
+            full.est.leapsec_total,
+            full.est.leapsec,
+        )),
+        Fed::Refused(_) => None,
+    }
+}
+
+#[test]
+fn leap_seconds_are_told_until_they_came(rt: HostRuntime) -> Result<(), Fail> {
+    let mut daemon = Daemon::new(rt.alloc(), FREQ)?;
+    assert_eq!(rt; daemon.leap(20_000_000_000, 1), Err(Refused::LeapOld));
+    let first = feed_behind(&mut daemon, &[], stamp_with(FIRST, 1));
+    assert_eq!(rt; told(first), Some((0, 0, 0)));
+    assert_eq!(rt; daemon.leap(20_000_000_000, 1), Ok(()));
+    let second = feed_behind(&mut daemon, &[], stamp_with(SECOND, 0));
+    assert_eq!(rt; told(second), Some((20_000_000_000, 0, 1)));
+    assert_eq!(rt; daemon.leap(21_000_000_000, 1), Err(Refused::LeapPending));
+    assert_eq!(rt; daemon.set(18_000_000_000), Ok(()));
+    assert_eq!(rt; daemon.set(18_000_000_000), Err(Refused::SetOld));
+    let third = feed_behind(&mut daemon, &[], stamp_with(THIRD, 0));
+    assert_eq!(rt; told(third), Some((0, 1, 0)));
     Ok(())
 }

@@ -1,4 +1,5 @@
 pub mod Watching
 pub mod Deviating
+pub mod MadeItems
 pub mod MadeTruth
 pub mod Judging

@@ -39,6 +39,8 @@ fn stamp_of(ta: u64, sec: u32, tf: u64) -> Stamp
         tb: from_nanos(u64::from(sec), 0),
         te: from_nanos(u64::from(sec), 0),
         tf: tf.min(MOST),
+        stratum: 1,
+        leap: 0,
     }
 }
 

@@ -1,9 +1,11 @@
 // A daemon that is watched.
 ghost use Rattle.std.specs.Prelude.{◌≡◌, ◌↔◌, ℕ, ◌≤◌, List, [], Ok, IfOk};
-ghost use Rattle.stamp_text.specs.Accepted.{IsInRange, accept_of, accepted_with, last_of};
+ghost use Rattle.stamp_text.specs.Accepted.{IsInRange, accepted_with};
 ghost use Rattle.stamp_text.specs.declared.accepts.Refused.{Refused};
-ghost use Rattle.stamp_text.specs.declared.lines.Stamp.{Stamp};
-ghost use Rattle.ff_estimator.specs.Estimates.{fed_of};
+ghost use Rattle.stamp_text.specs.Past.{accept_item};
+ghost use Rattle.stamp_text.specs.declared.lines.Item.{Item};
+ghost use Rattle.stamp_text.specs.declared.lines.Item.TheVariants as item;
+ghost use Rattle.ff_estimator.specs.Events.{fed_of};
 ghost use Rattle.ff_estimator.specs.Daemons.{StandsFor, credit};
 ghost use Rattle.ff_estimator.specs.Runs.{IsPaid};
 ghost use Rattle.ff_estimator.specs.declared.fulls.Full.{Full};
@@ -79,11 +81,11 @@ impl Watched {
         ensures outside { result ≡ Judged.Outside ↔ (LiesIn self.old.world s → ⊥) }
         ensures unchanged { result ≡ Judged.Outside → self.new ≡ self.old }
         ensures untouched { result ≡ Judged.Outside → steps.new ≡ steps.old }
-        ensures answer { (freq : ℕ) (all : List Stamp) → StandsFor self.old.daemon freq all →
-            LiesIn self.old.world s → result ≡ judged_by self.old.world s.tf (fed_of freq all s) }
-        ensures stands { (freq : ℕ) (all : List Stamp) → StandsFor self.old.daemon freq all →
-            LiesIn self.old.world s →
-            StandsFor self.new.daemon freq (accepted_with all s (accept_of (last_of all) s freq)) }
+        ensures answer { (freq : ℕ) (items : List Item) → StandsFor self.old.daemon freq items →
+            LiesIn self.old.world s → result ≡ judged_by self.old.world s.tf (fed_of freq items s) }
+        ensures stands { (freq : ℕ) (items : List Item) → StandsFor self.old.daemon freq items →
+            LiesIn self.old.world s → StandsFor self.new.daemon freq
+            (accepted_with items (item.Stamp s) (accept_item freq items (item.Stamp s))) }
         ensures refused { (why : Refused) → result ≡ Judged.Refused why → self.new ≡ self.old }
         ensures uncounted { (why : Refused) → result ≡ Judged.Refused why → steps.new ≡ steps.old }
         ensures world { self.new.world ≡ self.old.world }

@@ -144,7 +144,8 @@ fn time_of(x: Whole) -> Bintime
     }
 }
 
-/// The stamp with these numbers, which all are in their ranges.
+/// The stamp with these numbers, which all are in their ranges, of a server that is synchronised and tells
+/// of no leap second.
 pub fn stamp_of(row: &Row) -> Stamp
     ensures { IsInRange result }
 {
@@ -153,5 +154,7 @@ pub fn stamp_of(row: &Row) -> Stamp
         tb: time_of(row.tb),
         te: time_of(row.te),
         tf: count_of(row.tf),
+        stratum: 1,
+        leap: 0,
     }
 }

@@ -23,6 +23,8 @@ fn stamp(ta: u64, sec: i64, kept: u64, tf: u64) -> Stamp
         tb: Bintime { sec, frac: 0 },
         te: Bintime { sec, frac: kept },
         tf,
+        stratum: 1,
+        leap: 0,
     }
 }
 

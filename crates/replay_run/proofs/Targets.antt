@@ -6,9 +6,13 @@ use Rattle.std.proofs.lemmas.List.{map-append}
 use Rattle.std.proofs.lemmas.Option.{slice_get_within, get_or_from_slice_get}
 use Rattle.ff_hands.specs.declared.estimates.Estimate.{Estimate}
 use Rattle.ff_hands.specs.declared.hands.Order.{Order}
+use Rattle.ff_estimator.specs.Events.{count_of_event, order_of_event, fulls_of}
+use Rattle.ff_estimator.specs.Folds.{estimates_of}
+use Rattle.ff_estimator.specs.declared.fulls.Event.{Event}
+use Rattle.ff_estimator.specs.declared.fulls.Event.TheVariants as event
 use Rattle.replay_run.specs.Fitting.{PlanFits, update_after}
-use Rattle.replay_run.specs.Journals.{greatest, taken_in}
-use Rattle.replay_run.specs.Plans.{plain_step, steps_between, steps_from, plan_of}
+use Rattle.replay_run.specs.Journals.{greatest, moves_in, taken_in}
+use Rattle.replay_run.specs.Plans.{start_step, plain_step, steps_between, steps_from, plan_of}
 use Rattle.replay_run.specs.declared.plan.PlanStep.{PlanStep}
 
 -- no step's count is above the greatest
@@ -50,15 +54,44 @@ between-takes : (ticks from to n m : ℕ) (os : List Order) → taken_in (map (�
 between-takes ticks from to zero m os = refl
 between-takes ticks from to (suc n) m os = between-takes ticks from to n (m + 1) os
 
-steps-take : (es : List Estimate) (ticks : ℕ) → taken_in (map (λ (s : PlanStep). s.order) (steps_from es ticks)) ≡ es
-steps-take [] ticks = refl
-steps-take (e ∷ []) ticks = refl
-steps-take (e ∷ (next ∷ es)) ticks =
-    let between : List PlanStep = steps_between ticks e.update_ffcount next.update_ffcount in
-    let rest : List PlanStep = steps_from (next ∷ es) ticks in
-    ap (λ (es : List Estimate). e ∷ es) (ap taken_in (map-append (λ (s : PlanStep). s.order) between rest) ∙ between-takes ticks e.update_ffcount next.update_ffcount ticks 1 (map (λ (s : PlanStep). s.order) rest) ∙ steps-take (next ∷ es) ticks)
+steps-take : (freq : ℕ) (es : List Event) (ticks : ℕ) → taken_in (map (λ (s : PlanStep). s.order) (steps_from freq es ticks)) ≡ estimates_of (fulls_of es)
+steps-take freq [] ticks = refl
+steps-take freq (event.Estimate f ∷ []) ticks = refl
+steps-take freq (event.Set count at ∷ []) ticks = refl
+steps-take freq (event.Estimate f ∷ (next ∷ es)) ticks =
+    let from : ℕ = f.est.update_ffcount in
+    let between : List PlanStep = steps_between ticks from (count_of_event next) in
+    let rest : List PlanStep = steps_from freq (next ∷ es) ticks in
+    ap (λ (es : List Estimate). f.est ∷ es) (ap taken_in (map-append (λ (s : PlanStep). s.order) between rest) ∙ between-takes ticks from (count_of_event next) ticks 1 (map (λ (s : PlanStep). s.order) rest) ∙ steps-take freq (next ∷ es) ticks)
+steps-take freq (event.Set count at ∷ (next ∷ es)) ticks =
+    let between : List PlanStep = steps_between ticks count (count_of_event next) in
+    let rest : List PlanStep = steps_from freq (next ∷ es) ticks in
+    ap taken_in (map-append (λ (s : PlanStep). s.order) between rest) ∙ between-takes ticks count (count_of_event next) ticks 1 (map (λ (s : PlanStep). s.order) rest) ∙ steps-take freq (next ∷ es) ticks
 
 -- a plan takes each estimate once, in order
-pub plan-takes : (freq : ℕ) (es : List Estimate) (ticks : ℕ) → taken_in (map (λ (s : PlanStep). s.order) (plan_of freq es ticks)) ≡ es
+pub plan-takes : (freq : ℕ) (es : List Event) (ticks : ℕ) → taken_in (map (λ (s : PlanStep). s.order) (plan_of freq es ticks)) ≡ estimates_of (fulls_of es)
 unfolding plan_of
-plan-takes freq es ticks = steps-take es ticks
+plan-takes freq es ticks = steps-take freq es ticks
+
+-- plain steps are no moves
+between-moves : (ticks from to n m : ℕ) (os : List Order) → moves_in (map (λ (s : PlanStep). s.order) (map (plain_step ticks from to) (range_with_len m n)) ++ os) ≡ moves_in os
+between-moves ticks from to zero m os = refl
+between-moves ticks from to (suc n) m os = between-moves ticks from to n (m + 1) os
+
+move-first : (freq : ℕ) (e : Event) (os : List Order) → moves_in (order_of_event freq e ∷ os) ≡ order_of_event freq e ∷ moves_in os
+move-first freq (event.Estimate f) os = refl
+move-first freq (event.Set count at) os = refl
+
+steps-move : (freq : ℕ) (es : List Event) (ticks : ℕ) → moves_in (map (λ (s : PlanStep). s.order) (steps_from freq es ticks)) ≡ map (order_of_event freq) es
+steps-move freq [] ticks = refl
+steps-move freq (e ∷ []) ticks = move-first freq e []
+steps-move freq (e ∷ (next ∷ es)) ticks =
+    let between : List PlanStep = steps_between ticks (count_of_event e) (count_of_event next) in
+    let rest : List PlanStep = steps_from freq (next ∷ es) ticks in
+    move-first freq e (map (λ (s : PlanStep). s.order) (between ++ rest))
+    ∙ ap (λ (os : List Order). order_of_event freq e ∷ os) (ap moves_in (map-append (λ (s : PlanStep). s.order) between rest) ∙ between-moves ticks (count_of_event e) (count_of_event next) ticks 1 (map (λ (s : PlanStep). s.order) rest) ∙ steps-move freq (next ∷ es) ticks)
+
+-- a plan goes by each event once, in order
+pub plan-moves : (freq : ℕ) (es : List Event) (ticks : ℕ) → moves_in (map (λ (s : PlanStep). s.order) (plan_of freq es ticks)) ≡ (start_step freq).order ∷ map (order_of_event freq) es
+unfolding plan_of
+plan-moves freq es ticks = ap (λ (os : List Order). (start_step freq).order ∷ os) (steps-move freq es ticks)

@@ -29,6 +29,13 @@ taken_in (order.Plain ∷ os) = taken_in os
 taken_in (order.Take e ∷ os) = e ∷ taken_in os
 taken_in (order.Reset e ∷ os) = taken_in os
 
+-- the orders among these that are not plain
+abbrev pub moves_in : List Order → List Order
+moves_in [] = []
+moves_in (order.Plain ∷ os) = moves_in os
+moves_in (order.Take e ∷ os) = order.Take e ∷ moves_in os
+moves_in (order.Reset e ∷ os) = order.Reset e ∷ moves_in os
+
 -- a tick that a step made. Where the counter is raised beside the driver too, it may be past the step's
 -- count
 pub record IsTickOf (beside : Bool) (s : PlanStep) (h : Hands) : Type 0 where

@@ -2,7 +2,8 @@
 use Rattle.std.specs.Prelude.{ℕ, ◌+◌, ◌-◌, ◌*◌, ◌/◌, ◌≤◌, List, [], ◌∷◌, ◌++◌, map}
 use Rattle.std.specs.List.{range_with_len}
 use Rattle.ff_hands.specs.Windups.{start_time, reset_estimate}
-use Rattle.ff_hands.specs.declared.estimates.Estimate.{Estimate}
+use Rattle.ff_estimator.specs.Events.{count_of_event, order_of_event}
+use Rattle.ff_estimator.specs.declared.fulls.Event.{Event}
 use Rattle.ff_hands.specs.declared.hands.Order.TheVariants as order
 use Rattle.replay_run.specs.declared.plan.Options.{Options}
 use Rattle.replay_run.specs.declared.plan.PlanStep.{PlanStep}
@@ -17,9 +18,9 @@ pub record AreOptionsInRange (o : Options) : Type 0 where
 abbrev pub start_step : ℕ → PlanStep
 start_step freq = record { to = 0; order = order.Reset (reset_estimate start_time 0 freq) }
 
--- an estimate is taken at its own count
-abbrev pub take_step : Estimate → PlanStep
-take_step e = record { to = e.update_ffcount; order = order.Take e }
+-- an estimate is taken, and a set made, at its own count
+abbrev pub event_step : ℕ → Event → PlanStep
+event_step freq e = record { to = count_of_event e; order = order_of_event freq e }
 
 -- where part m of the way between two counts ends, which is cut into ticks + 1 parts; rounded down
 abbrev pub count_between : ℕ → ℕ → ℕ → ℕ → ℕ
@@ -33,12 +34,12 @@ plain_step ticks from to m = record { to = count_between ticks from to m; order 
 abbrev pub steps_between : ℕ → ℕ → ℕ → List PlanStep
 steps_between ticks from to = map (plain_step ticks from to) (range_with_len 1 ticks)
 
--- each estimate is taken, and between two of them the clock goes on
-abbrev pub steps_from : List Estimate → ℕ → List PlanStep
-steps_from [] ticks = []
-steps_from (e ∷ []) ticks = take_step e ∷ []
-steps_from (e ∷ (next ∷ es)) ticks = take_step e ∷ (steps_between ticks e.update_ffcount next.update_ffcount ++ steps_from (next ∷ es) ticks)
+-- each event has its step, and between two of them the clock goes on
+abbrev pub steps_from : ℕ → List Event → ℕ → List PlanStep
+steps_from freq [] ticks = []
+steps_from freq (e ∷ []) ticks = event_step freq e ∷ []
+steps_from freq (e ∷ (next ∷ es)) ticks = event_step freq e ∷ (steps_between ticks (count_of_event e) (count_of_event next) ++ steps_from freq (next ∷ es) ticks)
 
--- the plan for a counter's frequency, the estimates, and how many plain steps stand between two
-unfoldable pub plan_of : ℕ → List Estimate → ℕ → List PlanStep
-plan_of freq es ticks = start_step freq ∷ steps_from es ticks
+-- the plan for a counter's frequency, the events, and how many plain steps stand between two
+unfoldable pub plan_of : ℕ → List Event → ℕ → List PlanStep
+plan_of freq es ticks = start_step freq ∷ steps_from freq es ticks

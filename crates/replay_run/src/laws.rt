@@ -1,42 +1,50 @@
 // What holds of every plan, of the journal that it makes, and of the logs that are opened for it.
 ghost use Rattle.std.specs.Prelude.{◌≡◌, ◌+◌, ◌-◌, ◌*◌, ◌^◌, ◌<◌, ◌≤◌, Bool, false, true, ℕ, List, [], ◌∷◌, length, map, slice_get, Some};
 ghost use Rattle.std.specs.List.Sorted.{IsNonDecreasingBy};
-ghost use Rattle.stamp_text.specs.Accepted.{AreAccepted};
-ghost use Rattle.stamp_text.specs.declared.lines.Stamp.{Stamp};
+ghost use Rattle.stamp_text.specs.Past.{AreAcceptedItems};
+ghost use Rattle.stamp_text.specs.declared.lines.Item.{Item};
 ghost use Rattle.ff_hands.specs.Journals.{order_of, IsJournal};
 ghost use Rattle.ff_hands.specs.Orders.{fits};
 ghost use Rattle.ff_hands.specs.Windups.{wind_of};
-ghost use Rattle.ff_hands.specs.declared.estimates.Estimate.{Estimate};
 ghost use Rattle.ff_hands.specs.declared.hands.Hands.{Hands};
 ghost use Rattle.ff_hands.specs.declared.hands.Order.TheVariants as order;
-ghost use Rattle.ff_estimator.specs.Folds.{fold_of, estimates_of};
+ghost use Rattle.ff_estimator.specs.Events.{events_of, fulls_of, order_of_event};
+ghost use Rattle.ff_estimator.specs.Folds.{estimates_of};
+ghost use Rattle.ff_estimator.specs.declared.fulls.Event.{Event};
 ghost use Rattle.atomic_table.specs.Seated.{TableId};
 ghost use Rattle.tick_desk.specs.Shows.{new_passes};
 ghost use Rattle.replay_run.specs.Fitting.{update_after, StepFits, PlanFits};
-ghost use Rattle.replay_run.specs.Journals.{journal_of, greatest, taken_in, IsJournalOf};
+ghost use Rattle.replay_run.specs.Journals.{journal_of, greatest, moves_in, taken_in, IsJournalOf};
 ghost use Rattle.replay_run.specs.Logs.{AreOpened, AreReady};
-ghost use Rattle.replay_run.specs.Plans.{plan_of};
+ghost use Rattle.replay_run.specs.Plans.{plan_of, start_step};
 ghost use Rattle.replay_run.specs.declared.log.ReadLog.{ReadLog};
 ghost use Rattle.replay_run.specs.declared.plan.PlanStep.{PlanStep};
 
-/// The law that a plan has one step for the reset, one for each estimate, and `ticks` between two of
-/// them.
+/// The law that a plan has one step for the reset, one for each event, and `ticks` between two of them.
 pub fn steps_are_counted()
-    ensures { (freq : ℕ) (es : List Estimate) (ticks : ℕ) →
+    ensures { (freq : ℕ) (es : List Event) (ticks : ℕ) →
         length (plan_of freq es ticks) ≡ 1 + length es + ticks * (length es - 1) }
 {}
 
 /// The law that a plan takes each estimate once, in their order.
 pub fn plans_take_each_estimate()
-    ensures { (freq : ℕ) (es : List Estimate) (ticks : ℕ) →
-        taken_in (map (λ s. s.order) (plan_of freq es ticks)) ≡ es }
+    ensures { (freq : ℕ) (es : List Event) (ticks : ℕ) →
+        taken_in (map (λ s. s.order) (plan_of freq es ticks)) ≡ estimates_of (fulls_of es) }
 {}
 
-/// The law that the plan of what a daemon says of accepted stamps fits a clock that was never set, each
-/// step as those before it leave the clock.
+/// The law that behind the reset a plan goes by each event once, in their order, and otherwise lets the
+/// clock go on.
+pub fn plans_go_by_each_event()
+    ensures { (freq : ℕ) (es : List Event) (ticks : ℕ) →
+        moves_in (map (λ s. s.order) (plan_of freq es ticks)) ≡
+        (start_step freq).order ∷ map (order_of_event freq) es }
+{}
+
+/// The law that the plan of the events of accepted items fits a clock that was never set, each step as
+/// those before it leave the clock.
 pub fn plans_fit()
-    ensures { (freq : ℕ) (all : List Stamp) (ticks : ℕ) → 1000000 ≤ freq → AreAccepted freq all →
-        PlanFits 0 0 (plan_of freq (estimates_of (fold_of freq all)) ticks) }
+    ensures { (freq : ℕ) (items : List Item) (ticks : ℕ) → 1000000 ≤ freq → AreAcceptedItems freq items →
+        PlanFits 0 0 (plan_of freq (events_of freq items) ticks) }
 {}
 
 /// The law that the order of a step that fits is not refused once the counter has reached the step's
@@ -84,8 +92,9 @@ pub fn journals_are_the_only_ones()
 /// The law that a journal made by a plan takes the plan's estimates, each once and in their order, also
 /// where the counter was raised beside the driver.
 pub fn journals_take_each_estimate()
-    ensures { (beside : Bool) (freq : ℕ) (es : List Estimate) (ticks : ℕ) (journal : List Hands) →
-        IsJournalOf beside (plan_of freq es ticks) journal → taken_in (map order_of journal) ≡ es }
+    ensures { (beside : Bool) (freq : ℕ) (es : List Event) (ticks : ℕ) (journal : List Hands) →
+        IsJournalOf beside (plan_of freq es ticks) journal →
+        taken_in (map order_of journal) ≡ estimates_of (fulls_of es) }
 {}
 
 /// The law that new passes are as many as were asked for, and that the logs that are opened over passes

@@ -13,8 +13,8 @@ mod tests;
 
 pub use laws::{
     journals_are_legal, journals_are_the_only_ones, journals_take_each_estimate,
-    new_logs_are_ready, plans_fit, plans_take_each_estimate, steps_are_counted, steps_wind,
-    targets_never_fall,
+    new_logs_are_ready, plans_fit, plans_go_by_each_event, plans_take_each_estimate,
+    steps_are_counted, steps_wind, targets_never_fall,
 };
 pub use log::ReadLog;
 pub use plan::{Options, Plan, PlanStep};

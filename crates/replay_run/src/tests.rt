@@ -1,8 +1,11 @@
 // Plans of what a daemon said of stamps, and their plays.
-ghost use Rattle.std.specs.Prelude.{◌≡◌, ◌<◌, ◌≤◌, List, [], ◌∷◌, false, length, IfOk};
+ghost use Rattle.std.specs.Prelude.{◌≡◌, ◌<◌, ◌≤◌, ◌^◌, List, [], ◌∷◌, ◌++◌, false, length, IfOk};
+ghost use Rattle.std.specs.Option.{option_to_list};
+ghost use Rattle.ff_grain.specs.Grains.{IsTime};
 ghost use Rattle.stamp_text.specs.Accepted.{IsInRange};
-ghost use Rattle.stamp_text.specs.declared.lines.Stamp.{Stamp};
-ghost use Rattle.ff_estimator.specs.Folds.{AreOf};
+ghost use Rattle.stamp_text.specs.declared.lines.Item.{Item};
+ghost use Rattle.ff_estimator.specs.Daemons.{StandsFor};
+ghost use Rattle.ff_estimator.specs.Events.{AreOf};
 ghost use Rattle.ff_hands.specs.Windups.{cold};
 ghost use Rattle.replay_run.specs.Fitting.{PlanFits};
 ghost use Rattle.replay_run.specs.Logs.{AreReady};
@@ -10,8 +13,8 @@ ghost use Rattle.replay_run.specs.Plans.{AreOptionsInRange};
 
 use crate::{Options, Plan, ReadLog, play};
 use clock_lines::{Entry, Kind, Reading};
-use ff_estimator::{Daemon, Fed, Full};
-use ff_grain::{NoMemory, from_nanos};
+use ff_estimator::{Daemon, Event, Fed};
+use ff_grain::{Bintime, NoMemory, from_nanos};
 use ff_hands::{Hands, Order};
 use rad_io::{Gate, OpenGate};
 use stamp_text::Stamp;
@@ -30,54 +33,94 @@ const FREQ: u64 = 1_000_000_000;
 /// The greatest count of a stamp.
 const MOST: u64 = (1 << 62) - 1;
 
-// A stamp's counters, and between them the second of both of the server's times.
-type Columns = (u64, u32, u64);
+// What a row of a test says: a stamp's counters, with the second of both of the server's times between
+// them, or the count at which the clock is set, and to which second.
+#[derive(Clone, Copy)]
+enum Row {
+    Stamp(u64, u32, u64),
+    Set(u64, u32),
+}
 
-fn stamp_of(columns: Columns) -> Stamp
+fn count_of(count: u64) -> u64
+    ensures { result < 2 ^ 62 }
+{
+    count.min(MOST)
+}
+
+fn time_of(second: u32) -> Bintime
+    ensures { IsTime result }
+{
+    from_nanos(u64::from(second), 0)
+}
+
+fn stamp_of(ta: u64, second: u32, tf: u64) -> Stamp
     ensures { IsInRange result }
 {
-    let (ta, second, tf) = columns;
-    let time = from_nanos(u64::from(second), 0);
+    let time = time_of(second);
     Stamp {
-        ta: ta.min(MOST),
+        ta: count_of(ta),
         tb: time,
         te: time,
-        tf: tf.min(MOST),
+        tf: count_of(tf),
+        stratum: 1,
+        leap: 0,
     }
 }
 
-// What a daemon says of the stamps that it accepts, under a blank.
-fn fulls_under<L: Ledger>(
+// What a row says behind the accepted ones, if it is accepted.
+fn told<L: Ledger>(daemon: &mut Daemon, row: Row, steps: &mut Steps<L>) -> Option<Event>
+    ensures { (items : List Item) → StandsFor daemon.old 1000000000 items →
+        (more : List Item) × StandsFor daemon.new 1000000000 more ×
+        ((events : List Event) → AreOf events 1000000000 items →
+        AreOf (events ++ option_to_list result) 1000000000 more) }
+{
+    match row {
+        Row::Stamp(ta, second, tf) => match daemon.feed(stamp_of(ta, second, tf), steps) {
+            Fed::Estimate(full) => Some(Event::Estimate(full)),
+            Fed::Refused(_) => None,
+        },
+        Row::Set(count, second) => {
+            let count = count_of(count);
+            let at = time_of(second);
+            match daemon.set(count) {
+                Ok(()) => Some(Event::Set { count, at }),
+                Err(_) => None,
+            }
+        }
+    }
+}
+
+// What a daemon says of the rows that it accepts, under a blank.
+fn events_under<L: Ledger>(
     alloc: Global,
-    rows: &[Columns],
+    rows: &[Row],
     blank: Blank,
-) -> Result<Vec<Full>, NoMemory>
+) -> Result<Vec<Event>, NoMemory>
     requires name { blank.name ≡ L.name }
     requires parts { blank.parts ≡ L.parts }
     requires some { 0 < blank.parts }
-    ensures { IfOk result (λ fulls. (all : List Stamp) × AreOf fulls.items 1000000000 all) }
+    ensures { IfOk result (λ events. (items : List Item) × AreOf events.items 1000000000 items) }
 {
     let mut steps = Steps::<L>::new(blank);
     let mut daemon = Daemon::new(alloc, FREQ)?;
-    let mut fulls = Vec::new(alloc);
-    for columns in rows {
-        match daemon.feed(stamp_of(*columns), &mut steps) {
-            Fed::Estimate(full) => fulls.push(full)?,
-            Fed::Refused(_) => {}
+    let mut events = Vec::new(alloc);
+    for row in rows {
+        if let Some(event) = told(&mut daemon, *row, &mut steps) {
+            events.push(event)?;
         }
     }
-    Ok(fulls)
+    Ok(events)
 }
 
 // The plan to replay it.
-fn plan_of(alloc: Global, rows: &[Columns], options: &Options) -> Result<Plan, NoMemory>
+fn plan_of(alloc: Global, rows: &[Row], options: &Options) -> Result<Plan, NoMemory>
     requires { AreOptionsInRange options.now }
     ensures freq { IfOk result (λ p. p.freq ≡ 1000000000) }
     ensures options { IfOk result (λ p. p.options ≡ options.now) }
     ensures fits { IfOk result (λ p. PlanFits 0 0 p.steps.items) }
 {
-    let fulls = fulls_under::<Brand>(alloc, rows, Blank::new(1))?;
-    Plan::of(alloc, FREQ, &fulls, options)
+    let events = events_under::<Brand>(alloc, rows, Blank::new(1))?;
+    Plan::of(alloc, FREQ, &events, options)
 }
 
 // Two readers.
@@ -105,12 +148,12 @@ fn word_of(order: Order) -> &'static str {
 #[test]
 fn plans_have_their_steps(rt: HostRuntime) -> Result<(), Fail> {
     // Fifths of 13 counts are 2.6 counts.
-    let rows: [(&[Columns], u32, &[(u64, &str)]); 3] = [
+    let rows: [(&[Row], u32, &[(u64, &str)]); 4] = [
         (&[], 4, &[(0, "reset")]),
         (
             &[
-                (1_000_000_000, 1_700_000_000, 1_000_100_000),
-                (17_000_000_000, 1_700_000_016, 17_000_100_000),
+                Row::Stamp(1_000_000_000, 1_700_000_000, 1_000_100_000),
+                Row::Stamp(17_000_000_000, 1_700_000_016, 17_000_100_000),
             ],
             1,
             &[
@@ -121,7 +164,7 @@ fn plans_have_their_steps(rt: HostRuntime) -> Result<(), Fail> {
             ],
         ),
         (
-            &[(5, 1, 10), (15, 1, 23)],
+            &[Row::Stamp(5, 1, 10), Row::Stamp(15, 1, 23)],
             4,
             &[
                 (0, "reset"),
@@ -133,9 +176,30 @@ fn plans_have_their_steps(rt: HostRuntime) -> Result<(), Fail> {
                 (23, "take"),
             ],
         ),
+        // A set at the start, a refused one, and one between two stamps.
+        (
+            &[
+                Row::Set(0, 9),
+                Row::Stamp(5, 1, 10),
+                Row::Set(10, 9),
+                Row::Set(13, 9),
+                Row::Stamp(15, 1, 23),
+            ],
+            1,
+            &[
+                (0, "reset"),
+                (0, "reset"),
+                (5, "plain"),
+                (10, "take"),
+                (11, "plain"),
+                (13, "reset"),
+                (18, "plain"),
+                (23, "take"),
+            ],
+        ),
     ];
-    for (stamps, ticks, wanted) in rows {
-        let plan = plan_of(rt.alloc(), stamps, &options_of(ticks, 3, true, false))?;
+    for (told, ticks, wanted) in rows {
+        let plan = plan_of(rt.alloc(), told, &options_of(ticks, 3, true, false))?;
         assert_eq!(rt; plan.steps.len(), wanted.len());
         for (step, (to, word)) in plan.steps.iter().zip(wanted) {
             assert_eq!(rt; step.to, *to);
@@ -146,9 +210,9 @@ fn plans_have_their_steps(rt: HostRuntime) -> Result<(), Fail> {
 }
 
 /// Two stamps, the second 16 s behind the first.
-const TWO: [Columns; 2] = [
-    (1_000_000_000, 1_700_000_000, 1_000_100_000),
-    (17_000_000_000, 1_700_000_016, 17_000_100_000),
+const TWO: [Row; 2] = [
+    Row::Stamp(1_000_000_000, 1_700_000_000, 1_000_100_000),
+    Row::Stamp(17_000_000_000, 1_700_000_016, 17_000_100_000),
 ];
 
 // A desk that nothing was done with, with room for the ticks of a plan, and the logs of its readers.

@@ -18,8 +18,8 @@ estimate_made s a b c d e f behind = column _ s b _ ∙ column _ s c _ ∙ colum
 pub clock_made : (s a b c d e f g behind : List ℕ) → a ++ (s ++ b ++ (s ++ c ++ (s ++ d ++ (s ++ e ++ (s ++ f ++ (s ++ (g ++ behind))))))) ≡ a ++ s ++ b ++ s ++ c ++ s ++ d ++ s ++ e ++ s ++ f ++ s ++ g ++ behind
 clock_made s a b c d e f g behind = column _ s b _ ∙ column _ s c _ ∙ column _ s d _ ∙ column _ s e _ ∙ column _ s f _ ∙ piece _ s _ ∙ piece _ g behind
 
-pub stamp_made : (s w i a b c d e end : List ℕ) → w ++ (i ++ (s ++ a ++ (s ++ b ++ (s ++ c ++ (s ++ d ++ (s ++ e ++ end)))))) ≡ w ++ i ++ s ++ a ++ s ++ b ++ s ++ c ++ s ++ d ++ s ++ e ++ end
-stamp_made s w i a b c d e end = piece _ i _ ∙ column _ s a _ ∙ column _ s b _ ∙ column _ s c _ ∙ column _ s d _ ∙ column _ s e end
+pub stamp_made : (s w i a b c d e p end : List ℕ) → w ++ (i ++ (s ++ a ++ (s ++ b ++ (s ++ c ++ (s ++ d ++ (s ++ e ++ (p ++ end))))))) ≡ w ++ i ++ s ++ a ++ s ++ b ++ s ++ c ++ s ++ d ++ s ++ e ++ p ++ end
+stamp_made s w i a b c d e p end = piece _ i _ ∙ column _ s a _ ∙ column _ s b _ ∙ column _ s c _ ∙ column _ s d _ ∙ column _ s e _ ∙ piece _ p end
 
 pub base_made : (s w i a b c f end : List ℕ) → w ++ (i ++ (s ++ a ++ (s ++ b ++ (s ++ c ++ (s ++ (f ++ end)))))) ≡ w ++ i ++ s ++ a ++ s ++ b ++ s ++ c ++ s ++ f ++ end
 base_made s w i a b c f end = piece _ i _ ∙ column _ s a _ ∙ column _ s b _ ∙ column _ s c _ ∙ piece _ s _ ∙ piece _ f end

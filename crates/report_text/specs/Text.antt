@@ -1,5 +1,5 @@
 -- The lines of a report and of a made stamp file, byte by byte.
-use Rattle.std.specs.Prelude.{ℕ, ◌-◌, Bool, if◌then◌else◌, List, [], ◌++◌, length, replicate, Option, None, Some, codes, decimal}
+use Rattle.std.specs.Prelude.{ℕ, ℤ, ◌-◌, Bool, if◌then◌else◌, ◌==◌, List, [], ◌++◌, length, replicate, Option, None, Some, codes, decimal}
 use Rattle.std.specs.Fmt.{signed_decimal}
 use Rattle.stamp_text.specs.declared.lines.Why.{Why}
 use Rattle.stamp_text.specs.declared.lines.Why.TheVariants as why
@@ -37,22 +37,30 @@ time_text t = signed_decimal t.sec ++ codes "+" ++ decimal t.frac
 abbrev pub mark_text : List ℕ → Bool → List ℕ
 mark_text word b = if b then word else []
 
+-- which version the stamp file has, where it is not the first
+abbrev pub version_part : ℕ → List ℕ
+version_part version = mark_text (codes " version 2") (version == 2)
+
 -- how many ticks, readers and attempts of each a replay has, and which flags
 unfoldable pub options_part : ℕ → ℕ → ℕ → Bool → Bool → List ℕ
 options_part ticks readers reads back crank = codes " ticks " ++ decimal ticks ++ codes " readers " ++ decimal readers ++ codes " reads " ++ decimal reads ++ mark_text (codes " back") back ++ mark_text (codes " crank") crank
 
 -- the first line of a report
 unfoldable pub head_text : ReportHead → List ℕ
-head_text (head.Stamps freq) = codes "report stamps freq " ++ decimal freq ++ codes "\n"
-head_text (head.Rtt freq) = codes "report rtt freq " ++ decimal freq ++ codes "\n"
-head_text (head.Estimate freq) = codes "report estimate freq " ++ decimal freq ++ codes "\n"
-head_text (head.Ticks freq ticks) = codes "report ticks freq " ++ decimal freq ++ codes " ticks " ++ decimal ticks ++ codes "\n"
-head_text (head.Replay freq ticks readers reads back crank) = codes "report replay freq " ++ decimal freq ++ options_part ticks readers reads back crank ++ codes "\n"
+head_text (head.Stamps freq version) = codes "report stamps freq " ++ decimal freq ++ version_part version ++ codes "\n"
+head_text (head.Rtt freq version) = codes "report rtt freq " ++ decimal freq ++ version_part version ++ codes "\n"
+head_text (head.Estimate freq version) = codes "report estimate freq " ++ decimal freq ++ version_part version ++ codes "\n"
+head_text (head.Ticks freq ticks version) = codes "report ticks freq " ++ decimal freq ++ codes " ticks " ++ decimal ticks ++ version_part version ++ codes "\n"
+head_text (head.Replay freq ticks readers reads back crank version) = codes "report replay freq " ++ decimal freq ++ options_part ticks readers reads back crank ++ version_part version ++ codes "\n"
 head_text (head.Run number count ideal) = codes "report run number " ++ decimal number ++ codes " count " ++ decimal count ++ mark_text (codes " ideal") ideal ++ codes "\n"
 
+-- what a stamp of version 2 says of its server: the stratum, and what it says of a leap second
+unfoldable pub server_part : ℕ → Stamp → List ℕ
+server_part version s = mark_text (codes " " ++ decimal s.stratum ++ codes " " ++ decimal s.leap) (version == 2)
+
 -- the line of an accepted stamp, with its round trip
-unfoldable pub stamp_text : ℕ → Stamp → List ℕ
-stamp_text i s = codes "stamp " ++ decimal i ++ codes " " ++ decimal s.ta ++ codes " " ++ time_text s.tb ++ codes " " ++ time_text s.te ++ codes " " ++ decimal s.tf ++ codes " " ++ decimal (s.tf - s.ta) ++ codes "\n"
+unfoldable pub stamp_text : ℕ → Stamp → ℕ → List ℕ
+stamp_text i s version = codes "stamp " ++ decimal i ++ codes " " ++ decimal s.ta ++ codes " " ++ time_text s.tb ++ codes " " ++ time_text s.te ++ codes " " ++ decimal s.tf ++ codes " " ++ decimal (s.tf - s.ta) ++ server_part version s ++ codes "\n"
 
 -- 1 where it is so, and 0 where it is not
 abbrev pub flag_text : Bool → List ℕ
@@ -80,9 +88,25 @@ time_part e = decimal e.update_ffcount ++ codes " " ++ time_text e.update_time +
 unfoldable pub spread_part : Full → List ℕ
 spread_part f = decimal f.spread ++ codes " " ++ decimal f.rate.low ++ codes " " ++ decimal f.rate.high ++ codes " " ++ letter_text (codes "S") f.shifted ++ letter_text (codes "L") f.local ++ letter_text (codes "P") f.predicted
 
+-- leap seconds: when the next one is due, how many there were, and which it is
+unfoldable pub leap_part : Estimate → List ℕ
+leap_part e = decimal e.leapsec_next ++ codes " " ++ signed_decimal e.leapsec_total ++ codes " " ++ signed_decimal e.leapsec
+
+-- those of an estimate of version 2
+unfoldable pub told_leaps_part : ℕ → Estimate → List ℕ
+told_leaps_part version e = mark_text (codes " " ++ leap_part e) (version == 2)
+
 -- the line of an accepted stamp with its estimate
-unfoldable pub estimate_text : ℕ → Full → List ℕ
-estimate_text i f = codes "estimate " ++ decimal i ++ codes " " ++ time_part f.est ++ codes " " ++ spread_part f ++ codes "\n"
+unfoldable pub estimate_text : ℕ → Full → ℕ → List ℕ
+estimate_text i f version = codes "estimate " ++ decimal i ++ codes " " ++ time_part f.est ++ codes " " ++ spread_part f ++ told_leaps_part version f.est ++ codes "\n"
+
+-- the line of an accepted set, with its count and its time
+unfoldable pub set_text : ℕ → Bintime → List ℕ
+set_text count at = codes "set " ++ decimal count ++ codes " " ++ time_text at ++ codes "\n"
+
+-- the line of an accepted leap second, with its count and its sign
+unfoldable pub leap_text : ℕ → ℤ → List ℕ
+leap_text count leap = codes "leap " ++ decimal count ++ codes " " ++ signed_decimal leap ++ codes "\n"
 
 abbrev pub how_name : How → List ℕ
 how_name how.Cold = codes "cold"
@@ -100,10 +124,6 @@ clock_part h = how_name h.how ++ codes " " ++ decimal h.count ++ codes " " ++ ti
 unfoldable pub given_part : Estimate → List ℕ
 given_part e = time_text e.update_time ++ codes " " ++ decimal e.update_ffcount ++ codes " " ++ decimal e.period ++ codes " " ++ decimal e.errb_abs ++ codes " " ++ decimal e.errb_rate ++ codes " " ++ marks_text e.status
 
--- its leap seconds: when the next one is due, how many there were, and which it is
-unfoldable pub leap_part : Estimate → List ℕ
-leap_part e = decimal e.leapsec_next ++ codes " " ++ signed_decimal e.leapsec_total ++ codes " " ++ signed_decimal e.leapsec
-
 -- the line of a tick of a journal
 unfoldable pub tick_text : ℕ → Hands → List ℕ
 tick_text n h = codes "tick " ++ decimal n ++ codes " " ++ clock_part h ++ codes " " ++ given_part h.est ++ codes " " ++ leap_part h.est ++ codes "\n"
@@ -115,8 +135,15 @@ refused_name refused.Overlap = codes "overlap"
 refused_name refused.ServerOld = codes "server-old"
 refused_name refused.LongTrip = codes "long-trip"
 refused_name refused.Acausal = codes "acausal"
+refused_name refused.Unsynchronised = codes "unsynchronised"
+refused_name refused.BeforeSet = codes "before-set"
+refused_name refused.SetOld = codes "set-old"
+refused_name refused.LeapOld = codes "leap-old"
+refused_name refused.LeapPending = codes "leap-pending"
+refused_name refused.LeapUnannounced = codes "leap-unannounced"
+refused_name refused.LeapLimit = codes "leap-limit"
 
--- the line of a refused stamp
+-- the line of a refused item
 unfoldable pub refused_text : ℕ → Refused → List ℕ
 refused_text line why = codes "refused " ++ decimal line ++ codes " " ++ refused_name why ++ codes "\n"
 

@@ -1,35 +1,41 @@
 // The kinds of line, each made from its end. A line's push fails exactly where the sink's push of its
 // text does.
 ghost use Rattle.std.specs.Prelude.{◌≡◌, ◌≤◌, ◌+◌, ◌++◌, length};
-ghost use Rattle.report_text.specs.Text.{options_part, head_text, stamp_text, base_text, time_part, spread_part, estimate_text, clock_part, given_part, leap_part, tick_text, refused_text, summary_text, ideal_text, end_text, fault_text};
+ghost use Rattle.report_text.specs.Text.{version_part, options_part, head_text, server_part, stamp_text, base_text, time_part, spread_part, told_leaps_part, estimate_text, set_text, leap_text, clock_part, given_part, leap_part, tick_text, refused_text, summary_text, ideal_text, end_text, fault_text};
 
 use crate::line::LineText;
 use crate::names::{add_how, add_marks, limit_name, refused_name, why_name};
 use ff_estimator::Full;
+use ff_grain::Bintime;
 use ff_hands::{Estimate, Hands};
 use rad_io::{Failed, Sink};
 use rtt_window::Base;
 use stamp_text::{LineFault, Refused, Stamp};
 
-/// Which report it is, with what its first line tells.
+/// Which report it is, with what its first line tells. Those over a stamp file have its version, 1 or 2, which
+/// is told where it is 2.
 #[derive(Clone, Copy, Debug, PartialEq, Eq)]
 pub enum ReportHead {
     /// The report on stamps; `freq` is the counter's nominal frequency in Hz.
     Stamps {
         freq: u64,
+        version: u32,
     },
     /// The report on the bases of the round trips.
     Rtt {
         freq: u64,
+        version: u32,
     },
     /// The report on the estimates.
     Estimate {
         freq: u64,
+        version: u32,
     },
-    /// The report on the journal of ticks, with so many between two estimates.
+    /// The report on the journal of ticks, with so many between two events.
     Ticks {
         freq: u64,
         ticks: u32,
+        version: u32,
     },
     /// The report on a replay: the ticks as above, so many readers, and so many attempts of each.
     Replay {
@@ -41,6 +47,7 @@ pub enum ReportHead {
         back: bool,
         /// A crank raises the counter beside the one who winds.
         crank: bool,
+        version: u32,
     },
     /// The summary of a run over so many made stamps, which a number tells.
     Run {
@@ -71,7 +78,7 @@ pub struct Summary {
 pub struct EndCounts {
     /// Accepted stamps.
     pub accepted: u64,
-    /// Refused stamps.
+    /// Refused items.
     pub refused: u64,
     /// Ticks of the journal.
     pub ticks: Option<u64>,
@@ -84,9 +91,9 @@ pub struct EndCounts {
 pub enum Limit {
     /// More than 16,777,216 bytes.
     Bytes,
-    /// More than 65,536 well-formed stamp lines.
+    /// More than 65,536 well-formed item lines.
     Stamps,
-    /// More accepted stamps than a clock is played for.
+    /// More accepted stamps and sets together than a clock is played for.
     Accepted,
 }
 
@@ -103,6 +110,15 @@ pub enum FaultText {
     Read { taken: u64 },
     /// Memory was wanting.
     Memory,
+}
+
+// Adds which version the stamp file has, where it is not the first.
+fn add_version_part(line: &mut LineText, version: u32)
+    requires { length line.old + 10 ≤ 640 }
+    ensures text { line.new ≡ version_part version ++ line.old }
+    ensures short { length line.new ≤ length line.old + 10 }
+{
+    line.mark(b" version 2", version == 2);
 }
 
 // Adds the options of a replay.
@@ -136,19 +152,27 @@ fn head(h: ReportHead) -> LineText
     let mut line = LineText::new();
     line.word(b"\n");
     match h {
-        ReportHead::Stamps { freq } => {
+        ReportHead::Stamps { freq, version } => {
+            add_version_part(&mut line, version);
             line.number(freq);
             line.word(b"report stamps freq ");
         }
-        ReportHead::Rtt { freq } => {
+        ReportHead::Rtt { freq, version } => {
+            add_version_part(&mut line, version);
             line.number(freq);
             line.word(b"report rtt freq ");
         }
-        ReportHead::Estimate { freq } => {
+        ReportHead::Estimate { freq, version } => {
+            add_version_part(&mut line, version);
             line.number(freq);
             line.word(b"report estimate freq ");
         }
-        ReportHead::Ticks { freq, ticks } => {
+        ReportHead::Ticks {
+            freq,
+            ticks,
+            version,
+        } => {
+            add_version_part(&mut line, version);
             line.number(u64::from(ticks));
             line.word(b" ticks ");
             line.number(freq);
@@ -161,7 +185,9 @@ fn head(h: ReportHead) -> LineText
             reads,
             back,
             crank,
+            version,
         } => {
+            add_version_part(&mut line, version);
             add_options_part(&mut line, ticks, readers, reads, back, crank);
             line.number(freq);
             line.word(b"report replay freq ");
@@ -188,15 +214,29 @@ pub fn head_line<K: Sink>(sink: &mut K, h: &ReportHead) -> Result<(), Failed>
     sink.push(head(*h).bytes())
 }
 
+// Adds what a stamp of version 2 says of its server.
+#[tactic(auto, unfolding(crate::specs::Text::server_part))]
+fn add_server_part(line: &mut LineText, version: u32, s: &Stamp)
+    requires { length line.old + 42 ≤ 640 }
+    ensures text { line.new ≡ server_part version s.now ++ line.old }
+    ensures short { length line.new ≤ length line.old + 42 }
+{
+    if version == 2 {
+        line.column(u64::from(s.leap));
+        line.column(u64::from(s.stratum));
+    }
+}
+
 /// Pushes the line of the accepted stamp with the index `i`, from 0, and with its round trip in
-/// counts.
+/// counts. Where the file is of version 2 it ends with what the stamp says of its server.
 #[tactic(auto, unfolding(crate::specs::Text::stamp_text))]
-pub fn stamp_line<K: Sink>(sink: &mut K, i: u64, s: &Stamp) -> Result<(), Failed>
+pub fn stamp_line<K: Sink>(sink: &mut K, i: u64, s: &Stamp, version: u32) -> Result<(), Failed>
     requires { s.now.ta ≤ s.now.tf }
-    ensures { K.push_gives sink.old (stamp_text i s.now) result sink.new }
+    ensures { K.push_gives sink.old (stamp_text i s.now version) result sink.new }
 {
     let mut line = LineText::new();
     line.word(b"\n");
+    add_server_part(&mut line, version, s);
     line.column(s.tf - s.ta);
     line.column(s.tf);
     line.time_column(s.te);
@@ -257,19 +297,76 @@ fn add_spread_part(line: &mut LineText, f: &Full)
     line.wide(f.spread);
 }
 
-/// Pushes the line of the accepted stamp with the index `i`, from 0, with all that is said at it.
+// Adds leap seconds: when the next one is due, how many there were, and which it is.
+#[tactic(auto, unfolding(crate::specs::Text::leap_part))]
+fn add_leap_part(line: &mut LineText, e: &Estimate)
+    requires { length line.old + 122 ≤ 640 }
+    ensures text { line.new ≡ leap_part e.now ++ line.old }
+    ensures short { length line.new ≤ length line.old + 122 }
+{
+    line.signed(i64::from(e.leapsec));
+    line.word(b" ");
+    line.signed(i64::from(e.leapsec_total));
+    line.word(b" ");
+    line.number(e.leapsec_next);
+}
+
+// Adds those of an estimate of version 2.
+#[tactic(auto, unfolding(crate::specs::Text::told_leaps_part))]
+fn add_told_leaps_part(line: &mut LineText, version: u32, e: &Estimate)
+    requires { length line.old + 123 ≤ 640 }
+    ensures text { line.new ≡ told_leaps_part version e.now ++ line.old }
+    ensures short { length line.new ≤ length line.old + 123 }
+{
+    if version == 2 {
+        add_leap_part(line, e);
+        line.word(b" ");
+    }
+}
+
+/// Pushes the line of the accepted stamp with the index `i`, from 0, with all that is said at it. Where the
+/// file is of version 2 it ends with what the estimate tells of leap seconds.
 #[tactic(auto, unfolding(crate::specs::Text::estimate_text))]
-pub fn estimate_line<K: Sink>(sink: &mut K, i: u64, f: &Full) -> Result<(), Failed>
-    ensures { K.push_gives sink.old (estimate_text i f.now) result sink.new }
+pub fn estimate_line<K: Sink>(sink: &mut K, i: u64, f: &Full, version: u32) -> Result<(), Failed>
+    ensures { K.push_gives sink.old (estimate_text i f.now version) result sink.new }
 {
     let mut line = LineText::new();
     line.word(b"\n");
+    add_told_leaps_part(&mut line, version, &f.est);
     add_spread_part(&mut line, f);
     line.word(b" ");
     add_time_part(&mut line, &f.est);
     line.word(b" ");
     line.number(i);
     line.word(b"estimate ");
+    sink.push(line.bytes())
+}
+
+/// Pushes the line of an accepted set at a count, with the time that the clock is set to.
+#[tactic(auto, unfolding(crate::specs::Text::set_text))]
+pub fn set_line<K: Sink>(sink: &mut K, count: u64, at: Bintime) -> Result<(), Failed>
+    ensures { K.push_gives sink.old (set_text count at) result sink.new }
+{
+    let mut line = LineText::new();
+    line.word(b"\n");
+    line.time_column(at);
+    line.number(count);
+    line.word(b"set ");
+    sink.push(line.bytes())
+}
+
+/// Pushes the line of an accepted leap second behind a count: its sign is 1 where it is put in, and -1
+/// where it is left out.
+#[tactic(auto, unfolding(crate::specs::Text::leap_text))]
+pub fn leap_line<K: Sink>(sink: &mut K, count: u64, leap: i8) -> Result<(), Failed>
+    ensures { K.push_gives sink.old (leap_text count leap) result sink.new }
+{
+    let mut line = LineText::new();
+    line.word(b"\n");
+    line.signed(i64::from(leap));
+    line.word(b" ");
+    line.number(count);
+    line.word(b"leap ");
     sink.push(line.bytes())
 }
 
@@ -306,20 +403,6 @@ fn add_given_part(line: &mut LineText, e: &Estimate)
     line.time(e.update_time);
 }
 
-// Adds its leap seconds.
-#[tactic(auto, unfolding(crate::specs::Text::leap_part))]
-fn add_leap_part(line: &mut LineText, e: &Estimate)
-    requires { length line.old + 122 ≤ 640 }
-    ensures text { line.new ≡ leap_part e.now ++ line.old }
-    ensures short { length line.new ≤ length line.old + 122 }
-{
-    line.signed(i64::from(e.leapsec));
-    line.word(b" ");
-    line.signed(i64::from(e.leapsec_total));
-    line.word(b" ");
-    line.number(e.leapsec_next);
-}
-
 /// Pushes the line of the tick with the number `n`, from 0.
 #[tactic(auto, unfolding(crate::specs::Text::tick_text))]
 pub fn tick_line<K: Sink>(sink: &mut K, n: u64, h: &Hands) -> Result<(), Failed>
@@ -338,7 +421,7 @@ pub fn tick_line<K: Sink>(sink: &mut K, n: u64, h: &Hands) -> Result<(), Failed>
     sink.push(line.bytes())
 }
 
-/// Pushes the line of a refused stamp, with the number of its line in the file, from 1.
+/// Pushes the line of a refused item, with the number of its line in the file, from 1.
 #[tactic(auto, unfolding(crate::specs::Text::refused_text))]
 pub fn refused_line<K: Sink>(sink: &mut K, line: u64, why: Refused) -> Result<(), Failed>
     ensures { K.push_gives sink.old (refused_text line why) result sink.new }

@@ -35,7 +35,7 @@ pub fn limit_name(limit: Limit) -> &'static [u8]
 
 pub fn refused_name(why: Refused) -> &'static [u8]
     ensures name { result.now ≡ refused_name why }
-    ensures short { length result.now ≤ 15 }
+    ensures short { length result.now ≤ 16 }
 {
     match why {
         Refused::Backward => b"backward",
@@ -44,6 +44,13 @@ pub fn refused_name(why: Refused) -> &'static [u8]
         Refused::ServerOld => b"server-old",
         Refused::LongTrip => b"long-trip",
         Refused::Acausal => b"acausal",
+        Refused::Unsynchronised => b"unsynchronised",
+        Refused::BeforeSet => b"before-set",
+        Refused::SetOld => b"set-old",
+        Refused::LeapOld => b"leap-old",
+        Refused::LeapPending => b"leap-pending",
+        Refused::LeapUnannounced => b"leap-unannounced",
+        Refused::LeapLimit => b"leap-limit",
     }
 }
 

@@ -1,5 +1,5 @@
 -- The kept stamps from a place on, as two runs.
-use Rattle.std.proofs.Common.{◌≡◌, ℕ, ◌-◌, ◌≤◌, List, [], ◌∷◌, ◌++◌, length, take, drop, min, zero, suc, refl, sym, ap, ap₂, ◌∙◌, subst, arith, length-drop}
+use Rattle.std.proofs.Common.{◌≡◌, ℕ, ◌-◌, List, [], ◌∷◌, ◌++◌, length, take, drop, min, zero, suc, sym, ap, ap₂, ◌∙◌, subst, arith, length-drop}
 use Rattle.std.specs.List.{All}
 use Rattle.std.proofs.lemmas.List.{drop_min, take_all}
 use Rattle.std.proofs.lemmas.List.Elements.{All-drop, All-take}

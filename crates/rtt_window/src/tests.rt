@@ -27,6 +27,8 @@ fn stamp_of(i: u32, trip: u32) -> Stamp
         tb: time,
         te: time,
         tf: ta + u64::from(trip),
+        stratum: 1,
+        leap: 0,
     }
 }
 

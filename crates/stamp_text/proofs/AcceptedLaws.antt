@@ -15,7 +15,7 @@ use Rattle.stamp_text.specs.declared.lines.Line.{Line}
 use Rattle.stamp_text.specs.declared.lines.Stamp.{Stamp}
 
 -- where no test refuses, none holds
-none-holds : (tests : List (Bool × Refused)) → first_that_holds tests ≡ Ok tt → AllByRecursion (λ test. test.0 ≡ false) tests
+pub none-holds : (tests : List (Bool × Refused)) → first_that_holds tests ≡ Ok tt → AllByRecursion (λ test. test.0 ≡ false) tests
 none-holds [] e = tt
 none-holds ((true, why) ∷ tests) e = absurd (cc)
 none-holds ((false, why) ∷ tests) e = (refl, none-holds tests e)

@@ -1,5 +1,5 @@
 -- What a reader answers to the end is what the grammar says of the file.
-use Rattle.std.proofs.Common.{◌≡◌, ℕ, ◌+◌, ◌^◌, ◌<◌, ◌≤◌, true, false, cond, eqb, List, [], ◌∷◌, ◌++◌, Option, None, Some, Result, Ok, Err, IfErr, MatchOption, MatchResult, length, refl, sym, ap, ◌∙◌, subst, arith, length-append, append-nil}
+use Rattle.std.proofs.Common.{◌≡◌, ℕ, Bool, ◌+◌, ◌^◌, ◌<◌, ◌≤◌, true, false, cond, eqb, List, [], ◌∷◌, ◌++◌, Option, None, Some, Result, Ok, Err, IfErr, MatchOption, MatchResult, length, refl, sym, ap, ◌∙◌, subst, arith, length-append, append-nil}
 use Rattle.std.specs.Option.{option_to_list}
 use Rattle.std.proofs.lemmas.Bool.Decides.{nat_tests}
 use Rattle.stamp_text.specs.declared.lines.Line.{Line}
@@ -7,17 +7,17 @@ use Rattle.stamp_text.specs.declared.lines.LineFault.{LineFault}
 use Rattle.stamp_text.specs.declared.lines.Why.{Why}
 use Rattle.stamp_text.specs.declared.lines.Why.TheVariants as why
 use Rattle.stamp_text.specs.Cut.{ended_lines, open_line, with_last}
-use Rattle.stamp_text.specs.Grammar.{short_says, line_says, given_from, given_on, fault_from, fault_on, early_fault, first_fault, fault_so_far, given, missing, fault_of_file, given_of_file}
+use Rattle.stamp_text.specs.Grammar.{second_of, faults, gives_all, short_says, line_says, given_on, fault_on, early_fault, first_fault, fault_so_far, given, missing, fault_of_file, given_of_file}
 use Rattle.stamp_text.specs.Kept.{Kept, IsAt, StandsFor, AnswersByte, AnswersEnd, IsFaultOfAll}
 use Rattle.stamp_text.specs.FeedSteps.{line_number, at_line, unless_faulty, step_answer, last_answer, nothing_unless, second_line, sound_end}
-use Rattle.stamp_text.proofs.GrammarLaws.{fault_from-push, given_from-push, given_on-last}
+use Rattle.stamp_text.proofs.GrammarLaws.{faults-push, gives_all-push, given_on-last}
 use Rattle.stamp_text.proofs.FeedLaws.{no_fault, early-short, early-feed, counted, first_fault-later, fault-stays-all, step_answers}
 
 -- a fault of lines and of the open line is that of all of them
-end-faulty-by : (lines : List (List ℕ)) (r : List ℕ) (m : ℕ) (later : Option LineFault) (f : LineFault) → m ≡ length lines + 1 → first_fault (fault_from 1 lines) (early_fault m r) ≡ Some f → first_fault (fault_from 1 (with_last lines r)) later ≡ Some f
-end-faulty-by lines [] m later f e h = first_fault-later (fault_from 1 lines) None later f (λ no. absurd (cc)) h
+end-faulty-by : (lines : List (List ℕ)) (r : List ℕ) (m : ℕ) (later : Option LineFault) (f : LineFault) → m ≡ length lines + 1 → first_fault (faults lines) (early_fault m r) ≡ Some f → first_fault (faults (with_last lines r)) later ≡ Some f
+end-faulty-by lines [] m later f e h = first_fault-later (faults lines) None later f (λ no. absurd (cc)) h
 end-faulty-by lines (b ∷ bs) m later f e h =
-    let found : fault_from 1 (lines ++ (b ∷ bs) ∷ []) ≡ Some f = fault_from-push 1 lines (b ∷ bs) m (omega arith) ∙ first_fault-later (fault_from 1 lines) (early_fault m (b ∷ bs)) _ f (early-feed m (b ∷ bs) f) h in
+    let found : faults (lines ++ (b ∷ bs) ∷ []) ≡ Some f = faults-push lines (b ∷ bs) m (omega arith) ∙ first_fault-later (faults lines) (early_fault m (b ∷ bs)) _ f (early-feed (second_of lines) m (b ∷ bs) f) h in
     ap (λ x. first_fault x later) found
 
 -- a file in which a fault was found has that fault
@@ -44,36 +44,36 @@ end-open first gives before m (Ok o) f g =
     ]
 
 -- the answer to the end, where no fault was found
-end-sound : (lines : List (List ℕ)) (line : List ℕ) (m : ℕ) → m ≡ length lines + 1 → fault_from 1 lines ≡ None → early_fault m line ≡ None → MatchResult (sound_end (length lines) m line) (λ o. (first_fault (fault_from 1 (with_last lines line)) (missing (length (with_last lines line))) ≡ None) × (given_from 1 (with_last lines line) ≡ given_from 1 lines ++ option_to_list o)) (λ f. first_fault (fault_from 1 (with_last lines line)) (missing (length (with_last lines line))) ≡ Some f)
-end-sound lines [] m e h early = end-closed (fault_from 1 lines) (given_from 1 lines) (missing (length lines)) h
+end-sound : (lines : List (List ℕ)) (line : List ℕ) (m : ℕ) → m ≡ length lines + 1 → faults lines ≡ None → early_fault m line ≡ None → MatchResult (sound_end (second_of lines) (length lines) m line) (λ o. (first_fault (faults (with_last lines line)) (missing (length (with_last lines line))) ≡ None) × (gives_all (with_last lines line) ≡ gives_all lines ++ option_to_list o)) (λ f. first_fault (faults (with_last lines line)) (missing (length (with_last lines line))) ≡ Some f)
+end-sound lines [] m e h early = end-closed (faults lines) (gives_all lines) (missing (length lines)) h
 end-sound lines (b ∷ bs) m e h early =
     let line = b ∷ bs in
-    let says = early-short m line early in
-    let first : fault_from 1 (lines ++ line ∷ []) ≡ fault_on m (short_says m line) None = fault_from-push 1 lines line m (omega arith) ∙ ap (λ f. first_fault f (fault_on m (line_says m line) None)) h ∙ ap (λ r. fault_on m r None) says in
-    let gives : given_from 1 (lines ++ line ∷ []) ≡ given_from 1 lines ++ given_on (short_says m line) [] = given_from-push 1 lines line m (omega arith) h ∙ ap (λ r. given_from 1 lines ++ given_on r []) says in
+    let says = early-short (second_of lines) m line early in
+    let first : faults (lines ++ line ∷ []) ≡ fault_on m (short_says (second_of lines) m line) None = faults-push lines line m (omega arith) ∙ ap (λ f. first_fault f (fault_on m (line_says (second_of lines) m line) None)) h ∙ ap (λ r. fault_on m r None) says in
+    let gives : gives_all (lines ++ line ∷ []) ≡ gives_all lines ++ given_on (short_says (second_of lines) m line) [] = gives_all-push lines line m (omega arith) h ∙ ap (λ r. gives_all lines ++ given_on r []) says in
     let count : length (lines ++ line ∷ []) ≡ m = omega (arith, length-append lines (line ∷ [])) in
     let late : missing (length (lines ++ line ∷ [])) ≡ cond (eqb m 1) (Some (record { line = 2; why = why.Freq })) None = ap missing count ∙ missing_is m (omega arith) in
-    subst (λ v. MatchResult (second_line m (at_line m (short_says m line))) (λ o. (first_fault (fault_from 1 (lines ++ line ∷ [])) v ≡ None) × (given_from 1 (lines ++ line ∷ []) ≡ given_from 1 lines ++ option_to_list o)) (λ f. first_fault (fault_from 1 (lines ++ line ∷ [])) v ≡ Some f)) (sym late) (end-open (fault_from 1 (lines ++ line ∷ [])) (given_from 1 (lines ++ line ∷ [])) (given_from 1 lines) m (short_says m line) first gives)
+    subst (λ v. MatchResult (second_line m (at_line m (short_says (second_of lines) m line))) (λ o. (first_fault (faults (lines ++ line ∷ [])) v ≡ None) × (gives_all (lines ++ line ∷ []) ≡ gives_all lines ++ option_to_list o)) (λ f. first_fault (faults (lines ++ line ∷ [])) v ≡ Some f)) (sym late) (end-open (faults (lines ++ line ∷ [])) (gives_all (lines ++ line ∷ [])) (gives_all lines) m (short_says (second_of lines) m line) first gives)
 
 -- the answer to the end, by the fault that is kept
-end-by : (fault : Option LineFault) (text line : List ℕ) (ended : ℕ) → length text < 2 ^ 62 → MatchOption fault (IsAt ended line text) (λ f. fault_so_far text ≡ Some f) → AnswersEnd text (unless_faulty fault (sound_end ended (line_number ended) line))
+end-by : (fault : Option LineFault) (text line : List ℕ) (second : Bool) (ended : ℕ) → length text < 2 ^ 62 → MatchOption fault (IsAt ended second line text) (λ f. fault_so_far text ≡ Some f) → AnswersEnd text (unless_faulty fault (sound_end second ended (line_number ended) line))
 unfolding given fault_of_file given_of_file
-end-by None text line ended short at =
+end-by None text line second ended short at =
     let m = length (ended_lines text) + 1 in
     let known = no_fault text m refl at.sound in
-    let here : AnswersEnd text (sound_end (length (ended_lines text)) m (open_line text)) = end-sound (ended_lines text) (open_line text) m refl known.lines known.last in
-    subst (λ n. AnswersEnd text (sound_end ended n line)) (sym (counted text ended short at.lines)) (subst (λ l. AnswersEnd text (sound_end ended m l)) (sym at.last) (subst (λ k. AnswersEnd text (sound_end k m (open_line text))) (sym at.lines) here))
-end-by (Some f) text line ended short was = end-faulty text f was
+    let here : AnswersEnd text (sound_end (second_of (ended_lines text)) (length (ended_lines text)) m (open_line text)) = end-sound (ended_lines text) (open_line text) m refl known.lines known.last in
+    subst (λ n. AnswersEnd text (sound_end second ended n line)) (sym (counted text ended short at.lines)) (subst (λ l. AnswersEnd text (sound_end second ended m l)) (sym at.last) (subst (λ k. AnswersEnd text (sound_end second k m (open_line text))) (sym at.lines) (subst (λ v. AnswersEnd text (sound_end v (length (ended_lines text)) m (open_line text))) (sym at.version) here)))
+end-by (Some f) text line second ended short was = end-faulty text f was
 
 -- the answer to the end is the grammar's
 pub last_answers : (k : Kept) (text : List ℕ) → length text < 2 ^ 62 → StandsFor k text → AnswersEnd text (last_answer k)
 unfolding last_answer
-last_answers k text short at = end-by k.fault text k.line k.ended short at
+last_answers k text short at = end-by k.fault text k.line k.second k.ended short at
 
 -- a fault that is kept is answered to the end
 pub last_again : (k : Kept) (f : LineFault) → k.fault ≡ Some f → last_answer k ≡ Err f
 unfolding last_answer
-last_again k f h = ap (λ o. unless_faulty o (sound_end k.ended (line_number k.ended) k.line)) h
+last_again k f h = ap (λ o. unless_faulty o (sound_end k.second k.ended (line_number k.ended) k.line)) h
 
 -- a fault that is answered to a byte is the fault of each file that goes on from there
 pub refused_all : (k : Kept) (x : ℕ) → IfErr (step_answer k x) (λ f. (text : List ℕ) → length text < 2 ^ 62 → StandsFor k text → IsFaultOfAll (text ++ x ∷ []) f)

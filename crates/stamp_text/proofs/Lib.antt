@@ -2,6 +2,8 @@ pub mod DigitLaws
 pub mod EightLaws
 pub mod PlaceLaws
 pub mod StampLaws
+pub mod PastLaws
+pub mod PlainItems
 pub mod PieceLaws
 pub mod CutLaws
 pub mod GrammarLaws
@@ -11,3 +13,4 @@ pub mod RangeLaws
 pub mod GivenLaws
 pub mod TurnLaws
 pub mod AcceptedLaws
+pub mod VersionLaws

@@ -1,5 +1,5 @@
 -- Pieces that are read from the front of a line.
-use Rattle.std.proofs.Common.{◌≡◌, ℕ, ◌+◌, ◌-◌, ◌<◌, ◌≤◌, ◌&&◌, ◌||◌, not, None, Result, Ok, subst, codes, replicate, length-drop, true, false, cond, eqb, zero, suc, List, [], ◌∷◌, ◌++◌, Some, Err, length, take, drop, get_or, refl, sym, ap, ◌∙◌, arith, add-one, drop-cons, append_assoc, length-append, length-take}
+use Rattle.std.proofs.Common.{◌≡◌, ℕ, ◌+◌, ◌-◌, ◌<◌, ◌≤◌, ◌&&◌, ◌||◌, not, Bool, Option, None, IfSome, Result, Ok, subst, codes, replicate, length-drop, true, false, cond, eqb, zero, suc, List, [], ◌∷◌, ◌++◌, Some, Err, length, take, drop, get_or, refl, sym, ap, ◌∙◌, arith, add-one, drop-cons, append_assoc, length-append, length-take}
 use Rattle.std.specs.List.{All, position_or_len}
 use Rattle.std.specs.Str.{bytes_eq}
 use Rattle.std.proofs.Math.Seq.{take-append_seam, drop-append-add}
@@ -12,12 +12,13 @@ use Rattle.stamp_text.specs.declared.lines.Stamp.{Stamp}
 use Rattle.stamp_text.specs.declared.lines.Why.{Why}
 use Rattle.stamp_text.specs.declared.lines.Why.TheVariants as why
 use Rattle.stamp_text.specs.declared.numbers.Written.{Written}
-use Rattle.stamp_text.specs.Digits.{is_digit, all_digits, value_from, number_in}
+use Rattle.stamp_text.specs.Digits.{is_digit, all_digits, is_number, value_from, number_in}
 use Rattle.stamp_text.specs.Times.{is_point, nanos_in, written_of, time_in}
-use Rattle.stamp_text.specs.Stamps.{pieces_of, is_empty, stamp_within, stamp_of_numbers, stamp_of_pieces, stamp_in}
+use Rattle.stamp_text.specs.Stamps.{with_rest, pieces_of, is_empty, stamp_within, stamp_of_numbers, stamp_of_pieces, stamp_in}
+use Rattle.stamp_text.specs.Items.{two_of, set_says, leap_says, stamp_item, item_of_pieces, item_in}
 use Rattle.stamp_text.specs.Cut.{without_return}
-use Rattle.stamp_text.specs.Grammar.{version_says, freq_says, is_skipped, stamp_at, entry_says, text_says, short_says}
-use Rattle.stamp_text.specs.Pieces.{BeginsWithNumber, IsFirstPiece, IsNumberPiece, IsTimePiece, BeginsWithStamp}
+use Rattle.stamp_text.specs.Grammar.{version_says, freq_says, is_skipped, item_at, entry_says, text_says, short_says}
+use Rattle.stamp_text.specs.Pieces.{BeginsWithNumber, IsFirstPiece, IsNumberPiece, IsTimePiece, BeginsWithLine, BeginsWithStamp}
 use Rattle.stamp_text.proofs.DigitLaws.{nanos_filled}
 use Rattle.stamp_text.proofs.PlaceLaws.{time_cut}
 
@@ -131,22 +132,38 @@ not_skipped [] more some plain = absurd (omega arith)
 not_skipped (x ∷ xs) more some plain = let high : 46 ≤ x = plain 0 0 (omega arith) in grind (arith, nat_tests)
 
 -- what such a line says from line 3 on
-line_says_stamp : (n : ℕ) (line : List ℕ) → 2 < n → All (λ b. 32 ≤ b) line → is_skipped line ≡ false → short_says n line ≡ stamp_at n (stamp_in line)
-line_says_stamp n line late inner entry =
+line_says_item : (second : Bool) (n : ℕ) (line : List ℕ) → 2 < n → All (λ b. 32 ≤ b) line → is_skipped line ≡ false → short_says second n line ≡ item_at n (item_in second line)
+line_says_item second n line late inner entry =
     let no_first : eqb n 1 ≡ false = grind (arith, nat_tests) in
     let no_second : eqb n 2 ≡ false = grind (arith, nat_tests) in
-    ap (text_says n) (no_return line inner) ∙ ap (λ t. cond t (version_says line) (cond (eqb n 2) (freq_says line) (entry_says n line))) no_first ∙ ap (λ t. cond t (freq_says line) (entry_says n line)) no_second ∙ ap (λ t. cond t (Ok None) (stamp_at n (stamp_in line))) entry
+    ap (text_says second n) (no_return line inner) ∙ ap (λ t. cond t (version_says line) (cond (eqb n 2) (freq_says second line) (entry_says second n line))) no_first ∙ ap (λ t. cond t (freq_says second line) (entry_says second n line)) no_second ∙ ap (λ t. cond t (Ok None) (item_at n (item_in second line))) entry
+
+-- the first byte of a number is a digit
+first_digit : (x : ℕ) (xs : List ℕ) (n : ℕ) → number_in (x ∷ xs) ≡ Some n → is_digit x ≡ true
+first_digit x xs n e =
+    let split : (t : Bool) → is_number x xs ≡ t → cond t (Some (value_from 0 (x ∷ xs))) None ≡ Some n → is_digit x ≡ true =
+    elim [ true ↦ λ is e. digit_by x xs is | false ↦ λ is e. absurd (cc) ] in
+    split (is_number x xs) refl e
+  where
+    digit_by : (x : ℕ) (xs : List ℕ) → is_number x xs ≡ true → is_digit x ≡ true
+    digit_by x [] is = is
+    digit_by x (y ∷ ys) is = (and_parts _ _ (and_parts _ _ is).0).1
+
+-- so does one of version 1, with its stamp
+line_says_stamp : (n : ℕ) (line : List ℕ) → 2 < n → All (λ b. 32 ≤ b) line → is_skipped line ≡ false → short_says false n line ≡ item_at n (stamp_item (stamp_in line))
+unfolding item_in
+line_says_stamp n line late inner entry = line_says_item false n line late inner entry
 
 -- the stamp of a line of four pieces
-stamp_of_four : (line a b c d : List ℕ) (ta tf : ℕ) (tb te : Written) → pieces_of line ≡ a ∷ b ∷ c ∷ d ∷ [] → 0 < length a → 0 < length b → 0 < length c → 0 < length d → number_in a ≡ Some ta → time_in b ≡ Some tb → time_in c ≡ Some te → number_in d ≡ Some tf → stamp_within ta tb te tf ≡ stamp_in line
+stamp_of_four : (line a b c d : List ℕ) (ta tf : ℕ) (tb te : Written) → pieces_of line ≡ a ∷ b ∷ c ∷ d ∷ [] → 0 < length a → 0 < length b → 0 < length c → 0 < length d → number_in a ≡ Some ta → time_in b ≡ Some tb → time_in c ≡ Some te → number_in d ≡ Some tf → stamp_within ta tb te tf 1 0 ≡ stamp_in line
 unfolding stamp_in
 stamp_of_four line a b c d ta tf tb te pieces la lb lc ld na nb nc nd =
-    let none : (is_empty a || is_empty b || is_empty c || is_empty d) ≡ false = cc (not_empty a la, not_empty b lb, not_empty c lc, not_empty d ld) in
-    let told : stamp_of_numbers (number_in a) (time_in b) (time_in c) (number_in d) ≡ stamp_within ta tb te tf = cc (na, nb, nc, nd) in
-    sym (ap stamp_of_pieces pieces ∙ ap (λ x. cond x (Err why.Columns) (stamp_of_numbers (number_in a) (time_in b) (time_in c) (number_in d))) none ∙ told)
+    let none : (is_empty a || is_empty b || is_empty c || is_empty d || false || false) ≡ false = cc (not_empty a la, not_empty b lb, not_empty c lc, not_empty d ld) in
+    let told : stamp_of_numbers (number_in a) (time_in b) (time_in c) (number_in d) (Some 1) (Some 0) ≡ stamp_within ta tb te tf 1 0 = cc (na, nb, nc, nd) in
+    sym (ap (λ (ps : List (List ℕ)). stamp_of_pieces (with_rest ps)) pieces ∙ ap (λ x. cond x (Err why.Columns) (stamp_of_numbers (number_in a) (time_in b) (time_in c) (number_in d) (Some 1) (Some 0))) none ∙ told)
 
 -- a text that begins with a number, two times and a number begins with a stamp line
-pub stamp_first : (text r s t : List ℕ) (ta tf m n : ℕ) (tb te : Written) (q : Result Stamp Why) → IsNumberPiece text ta r → IsTimePiece r tb s → IsTimePiece s te t → BeginsWithNumber t tf m → q ≡ stamp_within ta tb te tf → n ≡ length text - length t + m → BeginsWithStamp text q n
+pub stamp_first : (text r s t : List ℕ) (ta tf m n : ℕ) (tb te : Written) (q : Result Stamp Why) → IsNumberPiece text ta r → IsTimePiece r tb s → IsTimePiece s te t → BeginsWithNumber t tf m → q ≡ stamp_within ta tb te tf 1 0 → n ≡ length text - length t + m → BeginsWithStamp text q n
 stamp_first text r s t ta tf m n tb te q a b c last is count =
     let d = take m t in
     let long : length d ≡ m = omega (arith, length-take m t, last.within) in
@@ -169,7 +186,66 @@ stamp_first text r s t ta tf m n tb te q a b c last is count =
       room = omega (arith, size, long, last.few, a.first.short, b.first.short, c.first.short, length-append a.piece (32 ∷ second), length-append b.piece (32 ∷ third), length-append c.piece (32 ∷ d));
       inner = subst (All (λ b. 32 ≤ b)) (sym front) inner;
       stamp = stamp ∙ ap stamp_in (sym front);
-      says = λ k late. ap (short_says k) front ∙ line_says_stamp k line late inner (not_skipped a.piece (32 ∷ second) a.first.some a.first.plain) ∙ ap (stamp_at k) (sym stamp);
+      says = λ k late. ap (short_says false k) front ∙ line_says_stamp k line late inner (not_skipped a.piece (32 ∷ second) a.first.some a.first.plain) ∙ ap (λ r. item_at k (stamp_item r)) (sym stamp);
+    }
+
+-- a stamp line of version 1 is such a line
+pub line_of_stamp : {second : Bool} (text : List ℕ) (o : Option (Result Stamp Why × ℕ)) → second ≡ false → IfSome o (λ p. BeginsWithStamp text p.0 p.1) → IfSome o (λ p. BeginsWithLine second text p.0 p.1)
+line_of_stamp text None first line = tt
+line_of_stamp text (Some p) first line = record { within = line.within; room = line.room; inner = line.inner; says = λ n late. ap (λ v. short_says v n (take p.1 text)) first ∙ line.says n late }
+
+-- a number is no word
+no_word : (piece word : List ℕ) (w n : ℕ) → 57 < w → number_in piece ≡ Some n → bytes_eq piece (w ∷ word) ≡ false
+no_word [] word w n high e = absurd (cc)
+no_word (x ∷ xs) word w n high e =
+    let digit : is_digit x ≡ true = first_digit x xs n e in
+    let other : eqb x w ≡ false = grind (arith, nat_tests) in
+    ap (λ t. t && bytes_eq xs word) other
+
+-- so a line that begins with a number says a stamp
+pub number_says : (first : List ℕ) (rest : List (List ℕ)) (n : ℕ) → number_in first ≡ Some n → item_of_pieces (first ∷ rest) ≡ stamp_item (stamp_of_pieces (first ∷ rest))
+number_says first rest n e =
+    ap (λ t. cond t (set_says (two_of rest)) (cond (bytes_eq first (codes "leap")) (leap_says (two_of rest)) (stamp_item (stamp_of_pieces (first ∷ rest))))) (no_word first (codes "et") 115 n (omega arith) e)
+    ∙ ap (λ t. cond t (leap_says (two_of rest)) (stamp_item (stamp_of_pieces (first ∷ rest)))) (no_word first (codes "eap") 108 n (omega arith) e)
+
+-- what a line of six pieces says in version 2
+second_of_six : (line a b c d e f : List ℕ) (ta tf stratum leap : ℕ) (tb te : Written) → pieces_of line ≡ a ∷ b ∷ c ∷ d ∷ e ∷ f ∷ [] → 0 < length a → 0 < length b → 0 < length c → 0 < length d → 0 < length e → 0 < length f → number_in a ≡ Some ta → time_in b ≡ Some tb → time_in c ≡ Some te → number_in d ≡ Some tf → number_in e ≡ Some stratum → number_in f ≡ Some leap
+    → stamp_item (stamp_within ta tb te tf stratum leap) ≡ item_in true line
+unfolding item_in
+second_of_six line a b c d e f ta tf stratum leap tb te pieces la lb lc ld le lf na nb nc nd ne nf =
+    let none : (is_empty a || is_empty b || is_empty c || is_empty d || is_empty e || is_empty f) ≡ false = cc (not_empty a la, not_empty b lb, not_empty c lc, not_empty d ld, not_empty e le, not_empty f lf) in
+    let told : stamp_of_numbers (number_in a) (time_in b) (time_in c) (number_in d) (number_in e) (number_in f) ≡ stamp_within ta tb te tf stratum leap = cc (na, nb, nc, nd, ne, nf) in
+    let six : stamp_of_pieces (a ∷ b ∷ c ∷ d ∷ e ∷ f ∷ []) ≡ stamp_within ta tb te tf stratum leap = ap (λ x. cond x (Err why.Columns) (stamp_of_numbers (number_in a) (time_in b) (time_in c) (number_in d) (number_in e) (number_in f))) none ∙ told in
+    sym (ap item_of_pieces pieces ∙ number_says a (b ∷ c ∷ d ∷ e ∷ f ∷ []) ta na ∙ ap stamp_item six)
+
+-- a text that begins with a number, two times and three numbers begins with a stamp line of version 2
+pub second_first : (text r s t u v : List ℕ) (ta tf stratum leap m n : ℕ) (tb te : Written) (q : Result Stamp Why) → IsNumberPiece text ta r → IsTimePiece r tb s → IsTimePiece s te t → IsNumberPiece t tf u → IsNumberPiece u stratum v → BeginsWithNumber v leap m → q ≡ stamp_within ta tb te tf stratum leap → n ≡ length text - length v + m → BeginsWithLine true text q n
+second_first text r s t u v ta tf stratum leap m n tb te q a b c d e last is count =
+    let f = take m v in
+    let long : length f ≡ m = omega (arith, length-take m v, last.within) in
+    let fifth : List ℕ = e.piece ++ 32 ∷ f in
+    let fourth : List ℕ = d.piece ++ 32 ∷ fifth in
+    let third : List ℕ = c.piece ++ 32 ∷ fourth in
+    let second : List ℕ = b.piece ++ 32 ∷ third in
+    let line : List ℕ = a.piece ++ 32 ∷ second in
+    let whole : text ≡ line ++ drop m v = first_of_front text a.piece r second (drop m v) a.first (first_of_front r b.piece s third (drop m v) b.first (first_of_front s c.piece t fourth (drop m v) c.first (first_of_front t d.piece u fifth (drop m v) d.first (first_of_front u e.piece v f (drop m v) e.first (sym (take-append-drop m v)))))) in
+    let size : length line ≡ n = omega (arith, count, long, first_long text a.piece r a.first, first_long r b.piece s b.first, first_long s c.piece t c.first, first_long t d.piece u d.first, first_long u e.piece v e.first, length-append a.piece (32 ∷ second), length-append b.piece (32 ∷ third), length-append c.piece (32 ∷ fourth), length-append d.piece (32 ∷ fifth), length-append e.piece (32 ∷ f)) in
+    let front : take n text ≡ line = ap (λ k. take k text) (sym size) ∙ ap (take (length line)) whole ∙ take-append_seam line (drop m v) in
+    let pieces : pieces_of line ≡ a.piece ∷ b.piece ∷ c.piece ∷ d.piece ∷ e.piece ∷ f ∷ [] =
+    first_pieces line a.piece second (first_of text a.piece r second a.first)
+    ∙ ap (λ (ps : List (List ℕ)). a.piece ∷ ps) (first_pieces second b.piece third (first_of r b.piece s third b.first)
+    ∙ ap (λ (ps : List (List ℕ)). b.piece ∷ ps) (first_pieces third c.piece fourth (first_of s c.piece t fourth c.first)
+    ∙ ap (λ (ps : List (List ℕ)). c.piece ∷ ps) (first_pieces fourth d.piece fifth (first_of t d.piece u fifth d.first)
+    ∙ ap (λ (ps : List (List ℕ)). d.piece ∷ ps) (first_pieces fifth e.piece f (first_of u e.piece v f e.first)
+    ∙ ap (λ (ps : List (List ℕ)). e.piece ∷ ps) (slice_split_none (λ b. eqb b 32) f (unspaced f (plain_digits f last.digits))))))) in
+    let stamp : stamp_item q ≡ item_in true line = ap stamp_item is ∙ second_of_six line a.piece b.piece c.piece d.piece e.piece f ta tf stratum leap tb te pieces a.first.some b.first.some c.first.some d.first.some e.first.some (omega (arith, long, last.some)) a.number b.time c.time d.number e.number last.number in
+    let plain = plain_digits f last.digits in
+    let inner : All (λ b. 32 ≤ b) line = first_inner text a.piece r second a.first (first_inner r b.piece s third b.first (first_inner s c.piece t fourth c.first (first_inner t d.piece u fifth d.first (first_inner u e.piece v f e.first (λ k g l. let high : 46 ≤ get_or f k g = plain k g l in omega arith))))) in
+    record {
+      within = omega (arith, size, ap length whole, length-append line (drop m v));
+      room = omega (arith, size, long, last.few, a.first.short, b.first.short, c.first.short, d.first.short, e.first.short, length-append a.piece (32 ∷ second), length-append b.piece (32 ∷ third), length-append c.piece (32 ∷ fourth), length-append d.piece (32 ∷ fifth), length-append e.piece (32 ∷ f));
+      inner = subst (All (λ b. 32 ≤ b)) (sym front) inner;
+      says = λ k late. ap (short_says true k) front ∙ line_says_item true k line late inner (not_skipped a.piece (32 ∷ second) a.first.some a.first.plain) ∙ ap (item_at k) (sym stamp);
     }
 
 -- the rest of a text, as it is passed

@@ -1,5 +1,5 @@
 -- Bytes that are given in turn, and the text that they go on with.
-use Rattle.std.proofs.Common.{◌≡◌, ◌≢◌, ℕ, ◌+◌, ◌^◌, ◌<◌, ◌≤◌, false, cond, eqb, List, [], ◌∷◌, ◌++◌, Option, None, Some, Result, Ok, Err, IfErr, MatchOption, length, sym, ap, ◌∙◌, subst, arith, inl, inr, length-append, append-nil, append_assoc, suc, take, get_or, length-take}
+use Rattle.std.proofs.Common.{◌≡◌, ◌≢◌, ℕ, Bool, ◌+◌, ◌^◌, ◌<◌, ◌≤◌, false, cond, eqb, List, [], ◌∷◌, ◌++◌, Option, None, Some, Result, Ok, Err, IfErr, MatchOption, length, sym, ap, ◌∙◌, subst, arith, inl, inr, length-append, append-nil, append_assoc, suc, take, get_or, length-take}
 use Rattle.std.proofs.lemmas.Bool.Decides.{nat_tests}
 use Rattle.std.proofs.lemmas.List.{take_more}
 use Rattle.std.specs.List.{All}
@@ -9,10 +9,11 @@ use Rattle.stamp_text.specs.declared.lines.Line.TheVariants as gives
 use Rattle.stamp_text.specs.declared.lines.LineFault.{LineFault}
 use Rattle.stamp_text.specs.declared.lines.Stamp.{Stamp}
 use Rattle.stamp_text.specs.declared.lines.Why.TheVariants as why
-use Rattle.stamp_text.specs.Grammar.{short_says, fault_so_far, given}
+use Rattle.stamp_text.specs.Cut.{without_return}
+use Rattle.stamp_text.specs.Grammar.{is_second, short_says, fault_so_far, given}
 use Rattle.stamp_text.specs.Kept.{Kept, IsAt, StandsFor, AnswersByte, AnswersBytes, IsFaultOfAll}
-use Rattle.stamp_text.specs.FeedSteps.{line_number, at_line, sound_answer, unless_faulty, step_answer, step_kept}
-use Rattle.stamp_text.specs.Pieces.{BeginsWithStamp}
+use Rattle.stamp_text.specs.FeedSteps.{line_number, at_line, sound_answer, unless_faulty, step_answer, second_after, step_kept}
+use Rattle.stamp_text.specs.Pieces.{BeginsWithLine}
 use Rattle.stamp_text.specs.Turns.{TakesSilently, AnswersInTurn}
 use Rattle.stamp_text.proofs.FeedLaws.{step_answers, step_stands, fault-stays-all}
 use Rattle.stamp_text.proofs.EndLaws.{end-faulty}
@@ -43,9 +44,9 @@ silent-stands old new (b ∷ bs) text short at p =
     }
 
 -- the answer to such bytes
-passed-answers : (fault : Option LineFault) (ended : ℕ) (line text bytes : List ℕ) → MatchOption fault (IsAt ended line (text ++ bytes)) (λ f. fault_so_far (text ++ bytes) ≡ Some f) → given (text ++ bytes) ≡ given text → AnswersBytes text bytes (unless_faulty fault (Ok None))
-passed-answers None ended line text bytes at same = (at.sound, same ∙ sym (append-nil (given text)))
-passed-answers (Some f) ended line text bytes found same = (found, same)
+passed-answers : (fault : Option LineFault) (ended : ℕ) (second : Bool) (line text bytes : List ℕ) → MatchOption fault (IsAt ended second line (text ++ bytes)) (λ f. fault_so_far (text ++ bytes) ≡ Some f) → given (text ++ bytes) ≡ given text → AnswersBytes text bytes (unless_faulty fault (Ok None))
+passed-answers None ended second line text bytes at same = (at.sound, same ∙ sym (append-nil (given text)))
+passed-answers (Some f) ended second line text bytes found same = (found, same)
 
 -- the answer to a last byte
 last-answers : (text front : List ℕ) (b : ℕ) (r : Result (Option Line) LineFault) → given (text ++ front) ≡ given text → AnswersByte (text ++ front) b r → AnswersBytes text (front ++ b ∷ []) r
@@ -66,7 +67,7 @@ pub turn_answers : (old new : Kept) (bytes : List ℕ) (r : Result (Option Line)
 turn_answers old new bytes r text short at (inl p) =
     let passed = silent-stands old new bytes text short at p.0 in
     record {
-      answer = subst (AnswersBytes text bytes) (sym p.1) (passed-answers new.fault new.ended new.line text bytes passed.stands passed.same);
+      answer = subst (AnswersBytes text bytes) (sym p.1) (passed-answers new.fault new.ended new.second new.line text bytes passed.stands passed.same);
       stands = passed.stands;
     }
 turn_answers old new bytes r text short at (inr e) =
@@ -112,14 +113,14 @@ plain_byte k b none other room =
     let not_full : eqb (length k.line) 255 ≡ false = grind (arith, nat_tests) in
     let m = line_number k.ended in
     let long : Result (Option Line) LineFault = Err (record { line = m; why = why.LongLine }) in
-    ap (λ f. unless_faulty f (sound_answer m k.line b)) none ∙ ap (λ t. cond t (at_line m (short_says m k.line)) (cond (eqb (length k.line) 255) long (Ok None))) not_feed ∙ ap (λ t. cond t long (Ok None)) not_full
+    ap (λ f. unless_faulty f (sound_answer k.second m k.line b)) none ∙ ap (λ t. cond t (at_line m (short_says k.second m k.line)) (cond (eqb (length k.line) 255) long (Ok None))) not_feed ∙ ap (λ t. cond t long (Ok None)) not_full
 
 -- nothing is answered to bytes that are no line feeds, where the line has room for them
 pub plain_silent : (k : Kept) (bs : List ℕ) → k.fault ≡ None → All (λ b. b ≢ 10) bs → length k.line + length bs ≤ 255 → TakesSilently k bs (record k { line = k.line ++ bs })
 plain_silent k [] none all room = ap (λ l. record k { line = l }) (append-nil k.line)
 plain_silent k (b ∷ bs) none all room =
     let not_feed : eqb b 10 ≡ false = let other : b ≢ 10 = all 0 0 (omega arith) in grind (arith, nat_tests) in
-    let step : step_kept k b (Ok None) ≡ record k { line = k.line ++ b ∷ [] } = ap (λ t. cond t (record { ended = line_number k.ended; line = []; fault = k.fault }) (record k { line = k.line ++ b ∷ [] })) not_feed in
+    let step : step_kept k b (Ok None) ≡ record k { line = k.line ++ b ∷ [] } = ap (λ t. cond t (record { ended = line_number k.ended; second = second_after k.ended k.second k.line; line = []; fault = k.fault }) (record k { line = k.line ++ b ∷ [] })) not_feed in
     let mid : Kept = record k { line = k.line ++ b ∷ [] } in
     let rest = plain_silent mid bs none (λ j d h. all (suc j) d (omega arith)) (omega (arith, length-append k.line (b ∷ []))) in
     let whole : TakesSilently mid bs (record k { line = k.line ++ (b ∷ bs) }) = subst (λ l. TakesSilently mid bs (record k { line = l })) (append_assoc k.line (b ∷ []) bs) rest in
@@ -153,12 +154,19 @@ whole_turn old new more n r none empty within feed room plain answer after = inr
 above_feed : (xs : List ℕ) → All (λ b. 32 ≤ b) xs → All (λ b. b ≢ 10) xs
 above_feed xs inner k d l = let high : 32 ≤ get_or xs k d = inner k d l in omega arith
 
+-- behind the first line the version stays
+pub second-stays : (ended : ℕ) (second : Bool) (line : List ℕ) → 0 < ended → second_after ended second line ≡ second
+second-stays ended second line late =
+    let other : eqb ended 0 ≡ false = grind (arith, nat_tests) in
+    ap (λ t. cond t (is_second (without_return line)) second) other
+
 -- the answer to a stamp line and its line feed, where no line was open
-pub stamp_turn : (old new : Kept) (more : List ℕ) (n k : ℕ) (s : Stamp) → old.fault ≡ None → old.line ≡ [] → 2 ≤ old.ended → n < length more → get_or more n 0 ≡ 10 → BeginsWithStamp more (Ok s) n → k ≡ line_number old.ended → new ≡ record old { ended = k } → AnswersInTurn old (take (n + 1) more) (Ok (Some (gives.Stamp k s))) new
+pub stamp_turn : (old new : Kept) (more : List ℕ) (n k : ℕ) (s : Stamp) → old.fault ≡ None → old.line ≡ [] → 2 ≤ old.ended → n < length more → get_or more n 0 ≡ 10 → BeginsWithLine old.second more (Ok s) n → k ≡ line_number old.ended → new ≡ record old { ended = k } → AnswersInTurn old (take (n + 1) more) (Ok (Some (gives.Stamp k s))) new
 unfolding step_answer
 stamp_turn old new more n k s none empty late within feed line is after =
     let bytes : List ℕ = take n more in
-    let says : short_says k bytes ≡ Ok (Some (gives.Stamp k s)) = line.says k (omega arith) in
-    let answer : Ok (Some (gives.Stamp k s)) ≡ unless_faulty old.fault (at_line (line_number old.ended) (short_says (line_number old.ended) bytes)) = sym (ap (λ f. unless_faulty f (at_line (line_number old.ended) (short_says (line_number old.ended) bytes))) none ∙ ap (λ j. at_line j (short_says j bytes)) (sym is) ∙ ap (at_line k) says) in
-    let kept : new ≡ record { ended = line_number old.ended; line = []; fault = old.fault } = after ∙ ap (λ j. record old { ended = j }) is ∙ ap (λ (l : List ℕ). record { ended = line_number old.ended; line = l; fault = old.fault }) empty in
+    let says : short_says old.second k bytes ≡ Ok (Some (gives.Stamp k s)) = line.says k (omega arith) in
+    let answer : Ok (Some (gives.Stamp k s)) ≡ unless_faulty old.fault (at_line (line_number old.ended) (short_says old.second (line_number old.ended) bytes)) = sym (ap (λ f. unless_faulty f (at_line (line_number old.ended) (short_says old.second (line_number old.ended) bytes))) none ∙ ap (λ j. at_line j (short_says old.second j bytes)) (sym is) ∙ ap (at_line k) says) in
+    let same : second_after old.ended old.second bytes ≡ old.second = second-stays old.ended old.second bytes (omega arith) in
+    let kept : new ≡ record { ended = line_number old.ended; second = second_after old.ended old.second bytes; line = []; fault = old.fault } = after ∙ ap (λ j. record old { ended = j }) is ∙ ap (λ (l : List ℕ). record { ended = line_number old.ended; second = old.second; line = l; fault = old.fault }) empty ∙ ap (λ v. record { ended = line_number old.ended; second = v; line = []; fault = old.fault }) (sym same) in
     whole_turn old new more n (Ok (Some (gives.Stamp k s))) none empty within feed (omega (arith, ap length empty, line.room)) (above_feed bytes line.inner) answer kept

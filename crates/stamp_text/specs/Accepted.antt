@@ -1,12 +1,15 @@
 -- Which stamps are accepted.
-use Rattle.std.specs.Prelude.{◌≡◌, ℕ, pos, ◌-◌, ◌*◌, ◌<◌, ◌≤◌, ◌≤ℤ◌, ◌-ℤ◌, int_lt, Bool, false, nat_le, nat_lt, if◌then◌else◌, List, [], ◌∷◌, ◌++◌, length, fold, slice_get, filter_map, Option, None, Some, Result, Ok, Err}
+use Rattle.std.specs.Prelude.{◌≡◌, ◌⊎◌, ℕ, ℤ, pos, negsuc, ◌-◌, ◌*◌, ◌<◌, ◌≤◌, ◌≤ℤ◌, ◌-ℤ◌, int_lt, Bool, false, nat_le, nat_lt, if◌then◌else◌, List, [], ◌∷◌, ◌++◌, length, fold, slice_get, filter_map, Option, None, Some, Result, Ok, Err}
 use Rattle.std.specs.List.{All, AllPairs}
 use Rattle.ff_grain.specs.Grains.{number_of, IsTime}
+use Rattle.ff_grain.specs.declared.bintime.Bintime.{Bintime}
 use Rattle.ff_grain.specs.Periods.{highest_period}
 use Rattle.stamp_text.specs.Format.{count_limit, least_freq, greatest_freq}
 use Rattle.stamp_text.specs.declared.accepts.Refused.{Refused}
 use Rattle.stamp_text.specs.declared.accepts.Refused.TheVariants as refused
 use Rattle.stamp_text.specs.declared.lines.Head.{Head}
+use Rattle.stamp_text.specs.declared.lines.Item.{Item}
+use Rattle.stamp_text.specs.declared.lines.Item.TheVariants as item
 use Rattle.stamp_text.specs.declared.lines.Line.{Line}
 use Rattle.stamp_text.specs.declared.lines.Line.TheVariants as gives
 use Rattle.stamp_text.specs.declared.lines.Stamp.{Stamp}
@@ -22,16 +25,33 @@ pub record IsInRange (s : Stamp) : Type 0 where
 abbrev pub trip : Stamp → ℕ
 trip s = s.tf - s.ta
 
--- version 1, and a frequency from 1 MHz to 16 GHz
+-- a counter below 2^62, and such a time
+pub record IsSetInRange (n : ℕ) (t : Bintime) : Type 0 where
+  pub count : n < count_limit
+  pub at : IsTime t
+
+-- a counter below 2^62, and a leap second that is put in or left out
+pub record IsLeapInRange (n : ℕ) (leap : ℤ) : Type 0 where
+  pub count : n < count_limit
+  pub sign : (leap ≡ pos 1) ⊎ (leap ≡ negsuc 0)
+
+abbrev pub IsItemInRange : Item → Type 0
+IsItemInRange (item.Stamp s) = IsInRange s
+IsItemInRange (item.Set count at) = IsSetInRange count at
+IsItemInRange (item.Leap count leap) = IsLeapInRange count leap
+
+-- version 1 or 2, and a frequency from 1 MHz to 16 GHz
 pub record IsHeadInRange (h : Head) : Type 0 where
-  pub version : h.version ≡ 1
+  pub version : (h.version ≡ 1) ⊎ (h.version ≡ 2)
   pub low : least_freq ≤ h.freq
   pub high : h.freq ≤ greatest_freq
 
--- what a line gives is a head or a stamp in its ranges
+-- what a line gives is a head or an item in its ranges
 abbrev pub IsLineInRange : Line → Type 0
 IsLineInRange (gives.Head h) = IsHeadInRange h
 IsLineInRange (gives.Stamp n s) = IsInRange s
+IsLineInRange (gives.Set n count at) = IsSetInRange count at
+IsLineInRange (gives.Leap n count leap) = IsLeapInRange count leap
 
 -- it was sent before the one before it was answered
 abbrev pub overlaps : Option Stamp → Stamp → Bool
@@ -83,10 +103,10 @@ pub record Follows (p s : Stamp) : Type 0 where
 abbrev pub last_of : List Stamp → Option Stamp
 last_of all = slice_get all (length all - 1)
 
--- the accepted stamps behind these and one more
-abbrev pub accepted_with : List Stamp → Stamp → Result (Unit {0}) Refused → List Stamp
-accepted_with accepted s (Ok o) = accepted ++ s ∷ []
-accepted_with accepted s (Err why) = accepted
+-- the accepted ones behind these and one more
+abbrev pub accepted_with : {A : Type 0} → List A → A → Result (Unit {0}) Refused → List A
+accepted_with accepted x (Ok o) = accepted ++ x ∷ []
+accepted_with accepted x (Err why) = accepted
 
 -- the accepted stamps behind accepted ones and more stamps, each of which is tested against the last
 -- accepted one before it
@@ -97,6 +117,8 @@ accepted_all freq accepted more = fold (λ all s. accepted_with all s (accept_of
 abbrev pub stamp_of_line : Line → Option Stamp
 stamp_of_line (gives.Head h) = None
 stamp_of_line (gives.Stamp n s) = Some s
+stamp_of_line (gives.Set n count at) = None
+stamp_of_line (gives.Leap n count leap) = None
 
 -- the stamps among lines
 abbrev pub stamps_among : List Line → List Stamp

@@ -41,3 +41,10 @@ count_limit = 2 ^ 62
 
 abbrev pub second_limit : ℕ
 second_limit = 2 ^ 32
+
+-- the first stratum, and the first word on leap seconds, that are too large
+abbrev pub stratum_limit : ℕ
+stratum_limit = 256
+
+abbrev pub leap_limit : ℕ
+leap_limit = 4

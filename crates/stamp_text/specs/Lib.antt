@@ -3,8 +3,10 @@ pub mod Cut
 pub mod Digits
 pub mod Times
 pub mod Stamps
+pub mod Items
 pub mod Grammar
 pub mod Accepted
+pub mod Past
 pub mod Kept
 pub mod FeedSteps
 pub mod Turns

@@ -1,12 +1,13 @@
 -- What a text begins with: digits, a piece that is a number or a time, a stamp line. No public clause cites this: it
 -- is a step of the proof that a line is read in one walk.
-use Rattle.std.specs.Prelude.{◌≡◌, ◌<◌, ◌≤◌, ◌^◌, ℕ, List, ◌∷◌, ◌++◌, true, Some, Result, length, take}
+use Rattle.std.specs.Prelude.{◌≡◌, ◌<◌, ◌≤◌, ◌^◌, ℕ, List, ◌∷◌, ◌++◌, Bool, true, false, Some, Result, length, take}
 use Rattle.std.specs.List.{All}
 use Rattle.stamp_text.specs.Format.{space, point, line_limit}
 use Rattle.stamp_text.specs.Digits.{all_digits, value_from, number_in}
 use Rattle.stamp_text.specs.Times.{time_in}
 use Rattle.stamp_text.specs.Stamps.{stamp_in}
-use Rattle.stamp_text.specs.Grammar.{short_says, stamp_at}
+use Rattle.stamp_text.specs.Items.{stamp_item}
+use Rattle.stamp_text.specs.Grammar.{short_says, item_at}
 use Rattle.stamp_text.specs.declared.lines.Stamp.{Stamp}
 use Rattle.stamp_text.specs.declared.lines.Why.{Why}
 use Rattle.stamp_text.specs.declared.numbers.Written.{Written}
@@ -46,10 +47,17 @@ pub record IsTimePiece (text : List ℕ) (t : Written) (rest : List ℕ) : Type 
   pub first : IsFirstPiece text piece rest
   pub time : time_in piece ≡ Some t
 
--- the first bytes, so many, are a stamp line that says this; none of them ends a line
+-- the first bytes, so many, are a line of such a file that says this stamp; none of them ends a line
+pub record BeginsWithLine (second : Bool) (text : List ℕ) (r : Result Stamp Why) (count : ℕ) : Type 0 where
+  pub within : count ≤ length text
+  pub room : count ≤ line_limit
+  pub inner : All (λ b. space ≤ b) (take count text)
+  pub says : (n : ℕ) → 2 < n → short_says second n (take count text) ≡ item_at n (stamp_item r)
+
+-- the same of version 1, with what a stamp line says
 pub record BeginsWithStamp (text : List ℕ) (r : Result Stamp Why) (count : ℕ) : Type 0 where
   pub within : count ≤ length text
   pub room : count ≤ line_limit
   pub inner : All (λ b. space ≤ b) (take count text)
   pub stamp : r ≡ stamp_in (take count text)
-  pub says : (n : ℕ) → 2 < n → short_says n (take count text) ≡ stamp_at n r
+  pub says : (n : ℕ) → 2 < n → short_says false n (take count text) ≡ item_at n (stamp_item r)

@@ -6,7 +6,8 @@ ghost use Rattle.stamp_text.specs.Accepted.{IsInRange, accept_of, is_acausal};
 use crate::lines::Stamp;
 use ff_grain::highest_period;
 
-/// Why a stamp is refused: the first of these tests that holds, in this order.
+/// Why an item is refused: the first of the tests of its kind that holds, in this order. The first eight
+/// are those of a stamp.
 #[derive(Clone, Copy, Debug, PartialEq, Eq)]
 pub enum Refused {
     /// The reply came when the request left, or before: `ta >= tf`.
@@ -21,6 +22,20 @@ pub enum Refused {
     LongTrip,
     /// The server took longer than the whole round trip, even at the greatest period.
     Acausal,
+    /// The server is not synchronised: its `leap` is 3, or its stratum is 0 or above 15.
+    Unsynchronised,
+    /// The request left when the clock was last set, or before.
+    BeforeSet,
+    /// A set is not behind the last accepted stamp, or not behind the last accepted set.
+    SetOld,
+    /// A leap second is not behind the last accepted stamp, or there is none.
+    LeapOld,
+    /// The last accepted stamp does not come behind the last accepted leap second.
+    LeapPending,
+    /// The last accepted stamp does not say that such a leap second is to come.
+    LeapUnannounced,
+    /// A hundred leap seconds were accepted.
+    LeapLimit,
 }
 
 // The server took longer than the round trip.

@@ -1,12 +1,15 @@
 // A reader of stamp files that takes one byte at a time, or those up to the end of a line.
-ghost use Rattle.std.specs.Prelude.{◌≡◌, ◌≢◌, IfOk, IfErr, IfSome, IfNone, OnOk, OnSome, ℕ, ◌+◌, ◌^◌, ◌<◌, ◌≤◌, List, [], ◌∷◌, ◌++◌, length, take, true, None, Some, Ok, Err};
+ghost use Rattle.std.specs.Prelude.{◌≡◌, ◌≢◌, IfOk, IfErr, IfSome, IfNone, OnOk, OnSome, ℕ, ◌+◌, ◌^◌, ◌<◌, ◌≤◌, List, [], ◌∷◌, ◌++◌, length, take, Bool, true, None, Some, Ok, Err};
 ghost use Rattle.stamp_text.specs.Cut.{without_return};
-ghost use Rattle.stamp_text.specs.Grammar.{short_says, text_says, version_says, freq_says, entry_says};
+ghost use Rattle.stamp_text.specs.Grammar.{entry_says, freq_says, head_of, is_second, line_of, short_says, text_says, version_says};
 ghost use Rattle.stamp_text.specs.Accepted.{IsLineInRange};
+ghost use Rattle.stamp_text.specs.FeedSteps.{second_after};
+ghost use Rattle.stamp_text.specs.Pieces.{BeginsWithLine};
 
-use crate::lines::{Head, Line, LineFault, Why};
+use crate::items::item_of;
+use crate::lines::{Head, Item, Line, LineFault, Stamp, Why};
 use crate::numbers::number_of;
-use crate::stamps::{stamp_ahead, stamp_of};
+use crate::stamps::{second_ahead, stamp_ahead};
 use arrayvec::ArrayVec;
 use memchr::memchr;
 use std::marker::Model;
@@ -20,11 +23,13 @@ const LEAST_FREQ: u64 = 1_000_000;
 /// The greatest nominal frequency, in Hz.
 const GREATEST_FREQ: u64 = 16_000_000_000;
 
-/// A reader at some place in a stamp file. It keeps how many lines have ended, the bytes of the
-/// line that has not, and the fault that it found.
+/// A reader at some place in a stamp file. It keeps how many lines have ended, whether the first of
+/// them said that the file is of version 2, the bytes of the line that has not ended, and the fault that
+/// it found.
 #[derive(Drop)]
 pub struct Feed {
     ended: u64,
+    second: bool,
     line: ArrayVec<u8, MOST>,
     fault: Option<LineFault>,
 }
@@ -34,7 +39,7 @@ impl Model for Feed {
 
     ghost Value = { Kept };
 
-    ghost view = { λ f. record { ended = f.ended; line = f.line.items; fault = f.fault } };
+    ghost view = { λ f. record { ended = f.ended; second = f.second; line = f.line.items; fault = f.fault } };
 }
 
 impl Default for Feed {
@@ -49,51 +54,69 @@ fn without_return(line: &[u8]) -> &[u8]
     line.strip_suffix(b"\r").unwrap_or(line)
 }
 
+fn is_second(line: &[u8]) -> bool
+    ensures { result ≡ is_second line.now }
+{
+    line == b"radclock-stamps 2".as_slice()
+}
+
 fn version_said(line: &[u8]) -> Result<Option<Line>, Why>
     ensures { result ≡ version_says line.now }
 {
-    if line == b"radclock-stamps 1".as_slice() {
+    if line == b"radclock-stamps 1".as_slice() || is_second(line) {
         Ok(None)
     } else {
         Err(Why::Head)
     }
 }
 
-fn freq_said(line: &[u8]) -> Result<Option<Line>, Why>
-    ensures { result ≡ freq_says line.now }
+fn freq_said(second: bool, line: &[u8]) -> Result<Option<Line>, Why>
+    ensures { result ≡ freq_says second line.now }
 {
+    let version = if second { 2 } else { 1 };
     let digits = line.strip_prefix(b"freq ").ok_or(Why::Freq)?;
     match number_of(digits) {
         Some(freq) if LEAST_FREQ <= freq && freq <= GREATEST_FREQ => {
-            Ok(Some(Line::Head(Head { version: 1, freq })))
+            Ok(Some(Line::Head(Head { version, freq })))
         }
         _ => Err(Why::Freq),
     }
 }
 
-fn entry_said(line: u64, text: &[u8]) -> Result<Option<Line>, Why>
-    ensures { result ≡ entry_says line text.now }
+fn line_of(line: u64, item: Item) -> Line
+    ensures { result ≡ line_of line item }
+{
+    match item {
+        Item::Stamp(stamp) => Line::Stamp { line, stamp },
+        Item::Set { count, at } => Line::Set { line, count, at },
+        Item::Leap { count, leap } => Line::Leap { line, count, leap },
+    }
+}
+
+fn entry_said(second: bool, line: u64, text: &[u8]) -> Result<Option<Line>, Why>
+    ensures { result ≡ entry_says second line text.now }
 {
     if text.is_empty() || text[0] == b'#' {
         return Ok(None);
     }
-    let stamp = stamp_of(text)?;
-    Ok(Some(Line::Stamp { line, stamp }))
+    let item = item_of(second, text)?;
+    Ok(Some(line_of(line, item)))
 }
 
-fn text_said(line: u64, text: &[u8]) -> Result<Option<Line>, Why>
-    ensures { result ≡ text_says line text.now }
+fn text_said(second: bool, line: u64, text: &[u8]) -> Result<Option<Line>, Why>
+    ensures { result ≡ text_says second line text.now }
 {
     match line {
         1 => version_said(text),
-        2 => freq_said(text),
-        _ => entry_said(line, text),
+        2 => freq_said(second, text),
+        _ => entry_said(second, line, text),
     }
 }
 
 // A line from 3 on that is a comment: it gives nothing.
 fn is_comment(line: u64, bytes: &[u8]) -> bool
-    ensures { result ≡ true → short_says line bytes.now ≡ Ok None }
+    ensures late { result ≡ true → 2 < line }
+    ensures says { (second : Bool) → result ≡ true → short_says second line bytes.now ≡ Ok None }
 {
     match bytes {
         [b'#', ..] => line > 2,
@@ -103,10 +126,33 @@ fn is_comment(line: u64, bytes: &[u8]) -> bool
 
 // What a line says that is not too long.
 #[inline(always)]
-fn line_said(line: u64, bytes: &[u8]) -> Result<Option<Line>, Why>
-    ensures { result ≡ short_says line bytes.now }
+fn line_said(second: bool, line: u64, bytes: &[u8]) -> Result<Option<Line>, Why>
+    ensures { result ≡ short_says second line bytes.now }
 {
-    text_said(line, without_return(bytes))
+    text_said(second, line, without_return(bytes))
+}
+
+// Whether the file is of version 2, behind a line: the first line says so.
+fn second_after(ended: u64, second: bool, line: &[u8]) -> bool
+    ensures { result ≡ second_after ended second line.now }
+{
+    if ended == 0 {
+        is_second(without_return(line))
+    } else {
+        second
+    }
+}
+
+// What the stamp line says that a text begins with, and how many bytes it has.
+#[inline(always)]
+fn line_ahead(second: bool, text: &[u8]) -> Option<(Result<Stamp, Why>, usize)>
+    ensures { IfSome result (λ p. BeginsWithLine second text.now p.0 p.1) }
+{
+    if second {
+        second_ahead(text)
+    } else {
+        stamp_ahead(text)
+    }
 }
 
 impl Feed {
@@ -124,13 +170,14 @@ impl Feed {
     {
         Feed {
             ended: 0,
+            second: false,
             line: ArrayVec::new(),
             fault: None,
         }
     }
 
-    /// Takes the next byte, and answers the line that it ends, if that line carries the head or a
-    /// stamp. A fault of a line is answered at its line feed, or at its 256th byte where it is too
+    /// Takes the next byte, and answers the line that it ends, if that line carries the head or an
+    /// item. A fault of a line is answered at its line feed, or at its 256th byte where it is too
     /// long, and again at each later byte. It is then the first fault of each file that begins with
     /// the bytes so far.
     pub fn byte(&mut self, b: u8) -> Result<Option<Line>, LineFault>
@@ -208,7 +255,7 @@ impl Feed {
         let [b'0'..=b'9', ..] = more else {
             return None;
         };
-        let (answer, count) = stamp_ahead(more)?;
+        let (answer, count) = line_ahead(self.second, more)?;
         if count >= more.len() || more[count] != b'\n' {
             return None;
         }
@@ -258,8 +305,9 @@ impl Feed {
             self.ended = number;
             return Ok(None);
         }
-        match line_said(number, line) {
+        match line_said(self.second, number, line) {
             Ok(given) => {
+                self.second = second_after(self.ended, self.second, line);
                 self.ended = number;
                 Ok(given)
             }
@@ -299,6 +347,7 @@ impl Feed {
             Err(fault) => self.fault = Some(fault),
             Ok(_) => {
                 if b == b'\n' {
+                    self.second = second_after(self.ended, self.second, self.line.as_slice());
                     self.line.clear();
                     self.ended = self.ended.saturating_add(1);
                 } else {
@@ -319,7 +368,10 @@ impl Feed {
         }
         let line = self.ended.saturating_add(1);
         if b == b'\n' {
-            return line_said(line, self.line.as_slice()).map_err(|why| LineFault { line, why });
+            return line_said(self.second, line, self.line.as_slice()).map_err(|why| LineFault {
+                line,
+                why,
+            });
         }
         if self.line.is_full() {
             return Err(LineFault {
@@ -331,7 +383,7 @@ impl Feed {
     }
 
     /// Ends the file, and answers its last line where that has no line feed and carries the head or
-    /// a stamp. The answer is a fault exactly where the file is not in the grammar.
+    /// an item. The answer is a fault exactly where the file is not in the grammar.
     pub fn end(self) -> Result<Option<Line>, LineFault>
         ensures answer { (text : List ℕ) → length text < 2 ^ 62 → StandsFor self text →
             AnswersEnd text result }
@@ -362,7 +414,10 @@ impl Feed {
                 _ => Ok(None),
             };
         }
-        let given = line_said(line, self.line.as_slice()).map_err(|why| LineFault { line, why })?;
+        let given = line_said(self.second, line, self.line.as_slice()).map_err(|why| LineFault {
+            line,
+            why,
+        })?;
         if line == 1 {
             return Err(LineFault {
                 line: 2,

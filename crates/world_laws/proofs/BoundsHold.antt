@@ -36,7 +36,7 @@ use Rattle.clock_lines.specs.Values.{time_bound, rate_bound, value_of, bound_of}
 use Rattle.clock_lines.specs.declared.readings.Kind.TheVariants as kind
 use Rattle.world_times.specs.declared.world.World.{World}
 use Rattle.world_times.specs.Worlds.{IsFit, LiesIn, distance}
-use Rattle.world_laws.specs.Journals.{GoesBy}
+use Rattle.world_laws.specs.Journals.{leapless, GoesBy}
 use Rattle.world_laws.specs.Truths.{IsTrueEstimate, IsTrueTick, AreTrueTicks}
 use Rattle.world_laws.proofs.TimesHold.{drift}
 use Rattle.world_laws.proofs.EstimatesHold.{rate-covers, taken-holds, rate-holds, spread-holds}
@@ -95,7 +95,7 @@ estimates-true freq w all low high fit are lie = fold-all (IsTrueEstimate w) fre
 record Tells (freq : ℕ) (all : List Stamp) (h : Hands) : Type 0 where
   index : ℕ
   here : index < length all
-  is : h.est ≡ (full_at freq all index).est
+  is : leapless h.est ≡ (full_at freq all index).est
   sync : h.est.status.unsync ≡ false
   update : h.est.update_ffcount ≤ h.count
   time : number_of h.time ≡ time_of h.est h.count
@@ -117,7 +117,7 @@ among-fold freq all e (k, within, at) =
       is = sym at ∙ get_or-map (λ f. f.est) fulls k d e (omega (arith, length-fold_of freq all)) ∙ ap (λ (f : Full). f.est) (get_or-fold_of freq all k d here);
     }
 
-take-tells : (freq : ℕ) (all : List Stamp) (h : Hands) (count : ℕ) (e : Estimate) → IsEstimate freq all e → e.update_ffcount ≤ count → e.status.unsync ≡ false
+take-tells : (freq : ℕ) (all : List Stamp) (h : Hands) (count : ℕ) (e : Estimate) → IsEstimate freq all (leapless e) → e.update_ffcount ≤ count → e.status.unsync ≡ false
     → (b : Bool) → Tells freq all (cond b (take_jump h count e) (take_on h count e))
 take-tells freq all h count e of reached sync true = record { index = of.index; here = of.here; is = of.is; sync = sync; update = reached; time = number_of-of_grains (time_of e count) }
 take-tells freq all h count e of reached sync false = record { index = of.index; here = of.here; is = of.is; sync = sync; update = reached; time = number_of-of_grains (time_of e count) }
@@ -144,7 +144,7 @@ wound-tells freq all h count order.Plain f by before sync =
     }
 wound-tells freq all h count (order.Take e) f by before sync =
     let reached = leb-true _ _ (and_parts _ _ (fits-in_time h count (order.Take e) f)).0 in
-    take-tells freq all h count e (among-fold freq all e by) reached (take-sync h count e (jumps h e) sync) (jumps h e)
+    take-tells freq all h count e (among-fold freq all (leapless e) by) reached (take-sync h count e (jumps h e) sync) (jumps h e)
 wound-tells freq all h count (order.Reset e) f by before sync = absurd (cc)
 
 tick-tells : (freq : ℕ) (all : List Stamp) (ticks : List Hands) → IsJournal ticks → All (λ h. GoesBy freq all (order_of h)) ticks → (n : ℕ) (h : Hands) → slice_get ticks n ≡ Some h → h.kstatus.unsync ≡ false → Tells freq all h

@@ -3,3 +3,4 @@ pub mod TimesHold
 pub mod EstimatesHold
 pub mod BoundsHold
 pub mod PlansGoBy
+pub mod SetsHold

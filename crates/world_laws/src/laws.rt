@@ -1,5 +1,6 @@
 // What holds of the definitions in an ideal world.
 ghost use Rattle.world_laws.specs.Journals.{PlansGoBy, BoundsHold, ReadingsHold, PlaysHold};
+ghost use Rattle.world_laws.specs.Marks.{SetsAreMarked, TakesAreMarked, TakesAreTrue};
 ghost use Rattle.world_laws.specs.Laws.{PairsHold, NominalHolds, TermsHold, MeansHold, PredictionsHold, SpreadsHold, EstimatesHold};
 
 /// The law that the bounds of a rate cover the true period: of the rate of a pair that lies in the
@@ -32,4 +33,13 @@ pub fn bounds_hold()
     ensures bound { BoundsHold }
     ensures reading { ReadingsHold }
     ensures play { PlaysHold }
+{}
+
+/// The law that a set of the clock takes the promise away until the next estimate is taken: from its tick
+/// on the ticks are marked unsynchronised, and the tick of the next estimate is marked as that is. Where it
+/// is not, it is true again, whatever the set said.
+pub fn sets_promise_nothing()
+    ensures set { SetsAreMarked }
+    ensures take { TakesAreMarked }
+    ensures again { TakesAreTrue }
 {}

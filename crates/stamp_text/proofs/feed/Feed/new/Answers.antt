@@ -4,4 +4,4 @@ use Rattle.stamp_text.proofs.feed.Feed.new.Goals as goal
 
 pub returns : goal.returns
 unfolding fault_so_far
-returns c = record { sound = refl; lines = refl; last = c.new.ensures }
+returns c = record { sound = refl; lines = refl; version = refl; last = c.new.ensures }

@@ -1,7 +1,7 @@
 use Rattle.std.proofs.Common.{◌≡◌, ◌≤◌, [], None, Ok, ap, subst, get_or, arith}
 use Rattle.std.proofs.lemmas.Grind.{common_steps}
 use Rattle.stamp_text.specs.Kept.{Kept}
-use Rattle.stamp_text.specs.Pieces.{BeginsWithStamp}
+use Rattle.stamp_text.specs.Pieces.{BeginsWithLine}
 use Rattle.stamp_text.proofs.TurnLaws.{stamp_turn}
 use Rattle.stamp_text.proofs.feed.Feed.stamp_line.Goals as goal
 
@@ -16,5 +16,5 @@ returns-clause-in_turn c =
     let late : 2 ≤ old.ended = omega (arith, c.if-self-lt2.false, ap (λ k. k.ended) c.self.view_is) in
     let feed : get_or more n 0 ≡ 10 = omega (arith, c.if-more-count-ne10.false) in
     let is : c.in_ok-answer.answer ≡ Ok s = grind (arith, common_steps, c.in_ok-stamp.ensures.value, c.in_ok-stamp.was) in
-    let line : BeginsWithStamp more (Ok s) n = subst (λ r. BeginsWithStamp more r n) is c.in_ok-answer.ensures in
+    let line : BeginsWithLine old.second more (Ok s) n = subst (λ r. BeginsWithLine old.second more r n) is (subst (λ v. BeginsWithLine v more c.in_ok-answer.answer n) (ap (λ k. k.second) c.self.view_is) c.in_ok-answer.ensures) in
     stamp_turn old _ more n c.saturating_add-line.result s none empty late (omega arith) feed line (omega (arith, c.saturating_add-line.ensures, ap (λ k. k.ended) c.self.view_is)) (ap {A = Kept} (λ k. record k { ended = c.saturating_add-line.result }) c.self.view_is)
