@@ -22,7 +22,7 @@ use Rattle.tick_desk.specs.Shows.{PenShows}
 use Rattle.tick_desk.specs.declared.desk.Desk.{Desk}
 use Rattle.replay_run.specs.declared.plan.Options.{Options}
 use Rattle.ideal_world.specs.declared.deviations.Deviation.{Deviation}
-use Rattle.radclock.specs.Inputs.{takes_few, stop_of_file, freq_of_file, stamps_of_file}
+use Rattle.radclock.specs.Inputs.{takes_few, stop_of_file, freq_of_file, items_of_file}
 use Rattle.radclock.specs.MadeRuns.{run_by}
 use Rattle.radclock.specs.Endings.{Leaves, replay_by}
 use Rattle.radclock.specs.Runs.{PushGives, ByLines, ByBlocks, Writing, Headline, Holds, HoldsDone, HoldsShort, IsDue, Ran, done_lines, ends_with, lines_due, status_due, PullGives, ReadsTo, StopsBehind, broke_off, at_end, in_piece, out_of_memory}
@@ -70,7 +70,7 @@ went-out due result (Ok o) e is = (refl, sym e ∙ is)
 went-out due result (Err x) e is = absurd (cc)
 
 -- what a report leaves, by the headline and the desk
-pub leaves-by : (r : Report) (text : List ℕ) (told : Option Deviation) (old new : Desk) → Headline (Some (command.Report r)) text told new.pen → HoldsDone (Some (command.Report r)) old new → Leaves r (freq_of_file text) (stamps_of_file text) old new
+pub leaves-by : (r : Report) (text : List ℕ) (told : Option Deviation) (old new : Desk) → Headline (Some (command.Report r)) text told new.pen → HoldsDone (Some (command.Report r)) old new → Leaves r (freq_of_file text) (items_of_file text) old new
 leaves-by report.Stamps text told old new line holds = holds
 leaves-by report.Rtt text told old new line holds = holds
 leaves-by report.Estimate text told old new line holds = holds
@@ -167,7 +167,7 @@ module _ {S K : Type 0} (left : S → Option (List ℕ)) (pull_faults : S → �
               ended = end-bytes left pull_faults pull consumes reads_cause reads.mid source' reads.piece reads.answer reads.last reads.sized whole.0;
               sound = sound.sound;
               few_bytes = sound.few_bytes;
-              few_stamps = sound.few_stamps;
+              few_items = sound.few_items;
               few_accepted = sound.few_accepted;
               leaves = leaves-by r ran.text ran.told desk desk' (ran.headline out.1) (subst (λ due. Holds (Some (command.Report r)) due desk desk') out.1 ran.holds);
               wrote = done-appends (Some (command.Report r)) ran.text ran.told desk'.pen sink sink' ran.due ran.answer ran.wrote out.0 out.1;

@@ -1,5 +1,6 @@
 pub mod Heads
 pub mod Accepting
+pub mod Admitting
 pub mod Stopping
 pub mod Gathering
 pub mod Pieces
@@ -7,6 +8,7 @@ pub mod Underway
 pub mod Progress
 pub mod Fulls
 pub mod Counted
+pub mod Next
 pub mod Listing
 pub mod Replaying
 pub mod Making

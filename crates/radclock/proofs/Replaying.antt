@@ -3,8 +3,8 @@ use Rattle.std.proofs.Common.{◌≡◌, ℕ, zero, suc, ◌+◌, ◌*◌, ◌<�
 use Rattle.std.specs.Option.{option_map}
 use Rattle.std.proofs.lemmas.List.{length-map}
 use Rattle.std.proofs.lemmas.Option.{slice_get-map, slice_get_within, slice_get-get_or, get_or_from_slice_get}
-use Rattle.stamp_text.specs.declared.lines.Stamp.{Stamp}
-use Rattle.ff_estimator.specs.Folds.{fold_of, estimates_of}
+use Rattle.stamp_text.specs.declared.lines.Item.{Item}
+use Rattle.ff_estimator.specs.Events.{events_of}
 use Rattle.clock_lines.specs.declared.readings.Entry.{Entry}
 use Rattle.clock_lines.specs.declared.readings.Entry.TheVariants as entry
 use Rattle.clock_logs.specs.Logs.{entry_of, IsLog}
@@ -12,7 +12,7 @@ use Rattle.clock_logs.specs.declared.noted.Kept.{Kept}
 use Rattle.clock_logs.proofs.Climbs.{logs-rise}
 use Rattle.clock_logs.proofs.Latest.{none-ahead}
 use Rattle.tick_desk.specs.Shows.{PenShows, IsFresh, new_passes}
-use Rattle.replay_run.specs.Journals.{greatest, taken_in, IsJournalOf}
+use Rattle.replay_run.specs.Journals.{greatest, moves_in, taken_in, IsJournalOf}
 use Rattle.replay_run.specs.Logs.{AreOpened, AreReady}
 use Rattle.replay_run.specs.Plays.{IsKeptLog, IsLogOf, Played}
 use Rattle.replay_run.specs.declared.log.ReadLog.{ReadLog}
@@ -20,7 +20,7 @@ use Rattle.replay_run.specs.declared.plan.Options.{Options}
 use Rattle.replay_run.specs.declared.plan.Plan.{Plan}
 use Rattle.replay_run.proofs.Journals.{journal-only, orders-of}
 use Rattle.replay_run.proofs.Opening.{first-passes, new-many, new-ready}
-use Rattle.replay_run.proofs.Targets.{plan-takes}
+use Rattle.replay_run.proofs.Targets.{plan-takes, plan-moves}
 use Rattle.radclock.specs.Reports.{log_lines}
 use Rattle.radclock.specs.Replays.{logs_of, steps_by, IsReplayed}
 use Rattle.radclock.specs.Plays.{entries_in, entries_of, IsPlanFor, IsReadyFor, ArePrinted}
@@ -60,8 +60,8 @@ all-entries (es ∷ logs) reads each =
     let e : length (es ∷ logs) ≡ 1 + length logs = omega arith in
     rw e (omega arith)
 
-module _ (freq : ℕ) (options : Options) (all : List Stamp) (plan : Plan) (before after : List ReadLog) (old new : PenShows) (ready : IsReadyFor freq options all plan before old) (played : Played plan.freq plan.options plan.steps.items before after old new) where
-  -- the play was that of these stamps
+module _ (freq : ℕ) (options : Options) (all : List Item) (plan : Plan) (before after : List ReadLog) (old new : PenShows) (ready : IsReadyFor freq options all plan before old) (played : Played plan.freq plan.options plan.steps.items before after old new) where
+  -- the play was that of these items
   play : Played freq options (steps_by freq options.ticks all) before after old new
   play =
       let p = ready.plan_is in
@@ -91,7 +91,8 @@ module _ (freq : ℕ) (options : Options) (all : List Stamp) (plan : Plan) (befo
       record {
         journal = play.journal;
         exact = λ none. journal-only steps new.journal (subst (λ b. IsJournalOf b steps new.journal) none play.journal);
-        estimates = ap taken_in (orders-of options.crank steps new.journal play.journal) ∙ plan-takes freq (estimates_of (fold_of freq all)) options.ticks;
+        estimates = ap taken_in (orders-of options.crank steps new.journal play.journal) ∙ plan-takes freq (events_of freq all) options.ticks;
+        moves = ap moves_in (orders-of options.crank steps new.journal play.journal) ∙ plan-moves freq (events_of freq all) options.ticks;
         readers = ap length all-kept ∙ play.many ∙ ready.many;
         numbers = λ i k at. (kept-log i k at).2.number;
         legal = λ i k at. (log-of i k at).legal;
@@ -131,7 +132,7 @@ pub as-many : (old mid : PenShows) (passes next : List _) (spare seen n : ℕ) �
 as-many old mid passes next spare seen n fresh reserved made = ap length (first-made old mid passes next spare seen n fresh reserved made) ∙ new-many mid.table 0 seen n
 
 -- all is ready: room was made behind a fresh desk, and then passes, which were given to the logs
-pub ready-for : (freq : ℕ) (options : Options) (all : List Stamp) (plan : Plan) (logs : List ReadLog) (old mid new : PenShows) (passes next : List _) (spare made : ℕ) → IsFresh old passes → old.kept ≡ [] → IsPlanFor freq options all plan → length plan.steps.items ≤ mid.spare
+pub ready-for : (freq : ℕ) (options : Options) (all : List Item) (plan : Plan) (logs : List ReadLog) (old mid new : PenShows) (passes next : List _) (spare made : ℕ) → IsFresh old passes → old.kept ≡ [] → IsPlanFor freq options all plan → length plan.steps.items ≤ mid.spare
     → mid ≡ record old { spare = spare } → new ≡ record mid { made = made } → next ≡ passes ++ new_passes mid.table mid.made (length mid.journal) plan.options.readers → AreOpened plan.options.reads next logs
     → IsReadyFor freq options all plan logs new
 ready-for freq options all plan logs old mid new passes next spare made fresh unused is room reserved grown behind opened =

@@ -14,7 +14,7 @@ use Rattle.clock_words.specs.declared.commands.Report.TheVariants as report
 use Rattle.tick_desk.specs.Shows.{PenShows}
 use Rattle.tick_desk.specs.declared.desk.Desk.{Desk}
 use Rattle.ideal_world.specs.declared.deviations.Deviation.{Deviation}
-use Rattle.radclock.specs.Inputs.{takes_few, stop_of_file, freq_of_file, stamps_of_file}
+use Rattle.radclock.specs.Inputs.{takes_few, stop_of_file, head_of_file, freq_of_file, items_of_file}
 use Rattle.radclock.specs.Readings.{IsTaken}
 use Rattle.radclock.specs.MadeRuns.{run_by}
 use Rattle.radclock.specs.Statuses.{status_of, fault_of}
@@ -29,14 +29,14 @@ use Rattle.radclock.proofs.Sound.{is-sound, not-done}
 use Rattle.radclock.proofs.Truth.{made-truth-of, truth-of}
 
 -- what a report leaves is the headline of a replay, and the desk of each other
-leaves-headline : (r : Report) (text : List ℕ) (told : Option Deviation) (old new : Desk) → Leaves r (freq_of_file text) (stamps_of_file text) old new → Headline (Some (command.Report r)) text told new.pen
+leaves-headline : (r : Report) (text : List ℕ) (told : Option Deviation) (old new : Desk) → Leaves r (freq_of_file text) (items_of_file text) old new → Headline (Some (command.Report r)) text told new.pen
 leaves-headline report.Stamps text told old new leaves = tt
 leaves-headline report.Rtt text told old new leaves = tt
 leaves-headline report.Estimate text told old new leaves = tt
 leaves-headline (report.Ticks ticks) text told old new leaves = tt
 leaves-headline (report.Replay ticks readers reads back crank) text told old new leaves = leaves
 
-leaves-holds : (r : Report) (text : List ℕ) (old new : Desk) → Leaves r (freq_of_file text) (stamps_of_file text) old new → HoldsDone (Some (command.Report r)) old new
+leaves-holds : (r : Report) (text : List ℕ) (old new : Desk) → Leaves r (freq_of_file text) (items_of_file text) old new → HoldsDone (Some (command.Report r)) old new
 leaves-holds report.Stamps text old new leaves = leaves
 leaves-holds report.Rtt text old new leaves = leaves
 leaves-holds report.Estimate text old new leaves = leaves
@@ -177,7 +177,7 @@ module _ {S K : Type 0} (pull : PullGives S) (written : K → Option (List ℕ))
 
   -- a report on a text that was read to its end
   pub run-finished : (r : Report) (text : List ℕ) (source source' : S) (sink sink' : K) (desk desk' : Desk) (result : Status) → desk.pen.journal ≡ cold ∷ [] → ReadsTo pull (takes_few r) source text None source' → stop_of_file (takes_few r) text ≡ None
-      → Finishes written faults push r (freq_of_file text) (stamps_of_file text) sink desk result sink' desk' → Ran pull (ByLines push) (Some (command.Report r)) source source' sink sink' desk desk' result
+      → Finishes written faults push r (head_of_file text) (items_of_file text) sink desk result sink' desk' → Ran pull (ByLines push) (Some (command.Report r)) source source' sink sink' desk desk' result
   run-finished r text source source' sink sink' desk desk' result fresh reads none ends =
       elim ends [
         | inl done ↦

@@ -4,7 +4,7 @@ use Rattle.std.specs.Option.{option_map}
 use Rattle.stamp_text.specs.Grammar.{given_of_file, fault_of_file}
 use Rattle.stamp_text.specs.declared.lines.LineFault.{LineFault}
 use Rattle.report_text.specs.declared.lines.Limit.TheVariants as limit
-use Rattle.radclock.specs.Inputs.{stamps_in, accepted_among, accepts_many, stop_by, first_stop, stop_of_file, freq_of_file, stamps_of_file}
+use Rattle.radclock.specs.Inputs.{items_in, counted_among, accepts_many, stop_by, first_stop, stop_of_file, head_of_file, freq_of_file, items_of_file}
 use Rattle.radclock.specs.Statuses.{status_of}
 use Rattle.radclock.specs.declared.inputs.Stop.{Stop}
 use Rattle.radclock.specs.declared.inputs.Stop.TheVariants as stop
@@ -23,8 +23,8 @@ not-done (stop.Large l) e = cc
 pub record IsSound (limited : Bool) (text : List ℕ) : Type 0 where
   pub sound : fault_of_file text ≡ None
   pub few_bytes : length text ≤ 16777216
-  pub few_stamps : length (stamps_of_file text) ≤ 65536
-  pub few_accepted : limited ≡ true → length (accepted_among (freq_of_file text) [] (stamps_of_file text)) ≤ 16384
+  pub few_items : length (items_of_file text) ≤ 65536
+  pub few_accepted : limited ≡ true → counted_among (freq_of_file text) (items_of_file text) ≤ 16384
 
 no-fault : (fault : Option LineFault) → option_map stop.Fault fault ≡ None → fault ≡ None
 no-fault None e = refl
@@ -35,7 +35,7 @@ first-of-some None s e = cc
 first-of-some (Some t) s e = cc
 
 pub is-sound : (limited : Bool) (text : List ℕ) → stop_of_file limited text ≡ None → IsSound limited text
-unfolding stamps_of_file freq_of_file
+unfolding items_of_file head_of_file
 is-sound limited text none =
     let lines = given_of_file text in
     let fault = fault_of_file text in
@@ -45,8 +45,8 @@ is-sound limited text none =
     let split : (t : Bool) → accepts_many limited lines ≡ t → IsSound limited text =
     elim [
       | true ↦ λ many. let found = accepted-stop limited lines fault many in absurd (cc)
-      | false ↦ λ tested. by_order (IsSound limited text) (length (stamps_in lines)) 65536
-          (λ few. record { sound = no-fault fault (sym (few-stop limited lines fault tested few) ∙ here); few_bytes = short; few_stamps = few; few_accepted = are-few limited lines few tested })
+      | false ↦ λ tested. by_order (IsSound limited text) (length (items_in lines)) 65536
+          (λ few. record { sound = no-fault fault (sym (few-stop limited lines fault tested few) ∙ here); few_bytes = short; few_items = few; few_accepted = are-few limited lines few tested })
           (λ many. let found = many-stop limited lines fault tested many in absurd (cc))
     ] in
     split (accepts_many limited lines) refl)

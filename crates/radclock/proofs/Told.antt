@@ -1,66 +1,75 @@
--- A report by stamps, whose lines are told one by one, is that by the lists of all that is told.
+-- A report by items, whose lines are told one by one, is that by the lists of all that is told.
 use Rattle.std.proofs.Common.{◌≡◌, ℕ, ◌+◌, ◌<◌, List, [], ◌∷◌, ◌++◌, None, Some, Result, Ok, Err, OnOk, is_ok, length, slice_get, map, refl, sym, ap, ap₂, ◌∙◌, arith, append_assoc, append-nil, length-append, if◌then◌else◌}
 use Rattle.std.specs.List.{range_with_len}
-use Rattle.std.specs.Option.{option_map_or}
+use Rattle.std.specs.Option.{option_map_or, option_to_list}
 use Rattle.std.proofs.Math.Seq.{get_or-append_seam}
 use Rattle.std.proofs.lemmas.List.{length_push}
 use Rattle.std.proofs.lemmas.Option.{slice_get-get_or}
 use Rattle.std.proofs.lemmas.List.FromFn.{length-map-range_with_len, get_or-map-range_with_len}
-use Rattle.stamp_text.specs.Accepted.{accept_of, accepted_with, last_of, trip}
+use Rattle.std.proofs.lemmas.List.Elements.{filter_map-append}
+use Rattle.stamp_text.specs.Accepted.{accepted_with, trip}
+use Rattle.stamp_text.specs.Past.{accept_item, stamp_of_item, stamps_of}
 use Rattle.stamp_text.specs.declared.accepts.Refused.{Refused}
+use Rattle.stamp_text.specs.declared.lines.Head.{Head}
+use Rattle.stamp_text.specs.declared.lines.Item.{Item}
+use Rattle.stamp_text.specs.declared.lines.Item.TheVariants as item
 use Rattle.stamp_text.specs.declared.lines.Stamp.{Stamp}
+use Rattle.stamp_text.proofs.PastLaws.{stamps-push}
 use Rattle.rtt_window.specs.Bases.{base_at}
 use Rattle.rtt_window.proofs.Prefixes.{base_at-append}
-use Rattle.ff_estimator.specs.Estimates.{full_at}
-use Rattle.ff_estimator.specs.Folds.{fold_of}
-use Rattle.ff_estimator.proofs.Prefixes.{full_at-append}
+use Rattle.ff_estimator.specs.Events.{event_behind, events_of, full_behind, full_of_event, fulls_of}
+use Rattle.ff_estimator.specs.declared.fulls.Event.{Event}
+use Rattle.ff_estimator.specs.declared.fulls.Event.TheVariants as event
+use Rattle.ff_estimator.specs.declared.fulls.Full.{Full}
+use Rattle.ff_estimator.proofs.Events.{events-push}
 use Rattle.ff_hands.specs.declared.hands.Hands.{Hands}
 use Rattle.clock_lines.specs.declared.readings.Entry.{Entry}
 use Rattle.replay_run.specs.declared.plan.Options.{Options}
-use Rattle.report_text.specs.Text.{head_text, end_text, stamp_text, base_text, estimate_text, refused_text}
+use Rattle.report_text.specs.Text.{head_text, end_text, stamp_text, base_text, estimate_text, set_text, leap_text, refused_text}
 use Rattle.report_text.specs.declared.lines.ReportHead.{ReportHead}
 use Rattle.report_text.specs.declared.lines.ReportHead.TheVariants as head
-use Rattle.radclock.specs.declared.inputs.StampLine.{StampLine}
+use Rattle.radclock.specs.declared.inputs.ItemLine.{ItemLine}
 use Rattle.radclock.specs.Inputs.{accepted_among}
-use Rattle.radclock.specs.Reports.{Outcome, outcomes, end_counts, line_by, lines_of, of_nth, stamp_report, stamps_report, rtt_report, estimate_report, bases_of, tick_lines, log_lines, replay_head, replay_counts, replay_report}
-use Rattle.radclock.specs.Tellings.{told_of, told, report, replay_told, stamps_says, rtt_says, estimate_says}
+use Rattle.radclock.proofs.Counted.{with-stamps, many-estimates}
+use Rattle.radclock.specs.Reports.{Outcome, outcomes, end_counts, is_stamp, is_taken, item_text, line_by, lines_of, of_nth, stamp_report, stamps_report, rtt_report, estimate_report, bases_of, tick_lines, log_lines, replay_head, replay_counts, replay_report}
+use Rattle.radclock.specs.Tellings.{told_item, told_of, told, report, replay_told, stamps_says, rtt_says, estimate_says}
 
--- one more stamp, accepted or not, and further ones
-starts-with : (a : List Stamp) (s : Stamp) (r : Result (Unit {0}) Refused) (more ys : List Stamp) → ys ≡ accepted_with a s r ++ more → (rest : List Stamp) × (ys ≡ a ++ rest)
-starts-with a s (Ok o) more ys e = (s ∷ more, e ∙ append_assoc a (s ∷ []) more)
-starts-with a s (Err why) more ys e = (more, e)
+-- one more item, accepted or not, and further ones
+starts-with : (a : List Item) (x : Item) (r : Result (Unit {0}) Refused) (more ys : List Item) → ys ≡ accepted_with a x r ++ more → (rest : List Item) × (ys ≡ a ++ rest)
+starts-with a x (Ok o) more ys e = (x ∷ more, e ∙ append_assoc a (x ∷ []) more)
+starts-with a x (Err why) more ys e = (more, e)
 
--- the accepted stamps begin with those before
-among-starts : (freq : ℕ) (a : List Stamp) (xs : List StampLine) → (rest : List Stamp) × (accepted_among freq a xs ≡ a ++ rest)
+-- the accepted items begin with those before
+among-starts : (freq : ℕ) (a : List Item) (xs : List ItemLine) → (rest : List Item) × (accepted_among freq a xs ≡ a ++ rest)
 among-starts freq a [] = ([], sym (append-nil a))
 among-starts freq a (x ∷ xs) =
-    let r = accept_of (last_of a) x.stamp freq in
-    let later = among-starts freq (accepted_with a x.stamp r) xs in
-    starts-with a x.stamp r later.0 (accepted_among freq (accepted_with a x.stamp r) xs) later.1
+    let r = accept_item freq a x.item in
+    let later = among-starts freq (accepted_with a x.item r) xs in
+    starts-with a x.item r later.0 (accepted_among freq (accepted_with a x.item r) xs) later.1
 
--- what is said of a stamp behind those before it is the line at its index
-abbrev AreSaid : (List Stamp → Stamp → List ℕ) → (ℕ → Stamp → List ℕ) → List Stamp → Type 0
-AreSaid says line all = (front : List Stamp) (s : Stamp) (rest : List Stamp) → all ≡ front ++ (s ∷ rest) → says front s ≡ line (length front) s
+-- what is said of a stamp behind the items before it is the line at its index
+abbrev AreSaid : (List Item → Stamp → List ℕ) → (ℕ → Stamp → List ℕ) → List Item → Type 0
+AreSaid says line all = (front : List Item) (s : Stamp) (rest : List Item) → all ≡ front ++ (item.Stamp s ∷ rest) → says front s ≡ line (length (stamps_of front)) s
 
-said-here : (says : List Stamp → Stamp → List ℕ) (line : ℕ → Stamp → List ℕ) (a : List Stamp) (s : Stamp) (r : Result (Unit {0}) Refused) (rest ys : List Stamp) → ys ≡ accepted_with a s r ++ rest → AreSaid says line ys → OnOk r (says a s ≡ line (length a) s)
-said-here says line a s (Ok o) rest ys e said = said a s rest (e ∙ append_assoc a (s ∷ []) rest)
-said-here says line a s (Err why) rest ys e said = tt
+said-item : (says : List Item → Stamp → List ℕ) (line : ℕ → Stamp → List ℕ) (a : List Item) (x : Item) (rest ys : List Item) → ys ≡ (a ++ x ∷ []) ++ rest → AreSaid says line ys → told_item says a x ≡ item_text line (length (stamps_of a)) x
+said-item says line a (item.Stamp s) rest ys e said = said a s rest (e ∙ append_assoc a (item.Stamp s ∷ []) rest)
+said-item says line a (item.Set count at) rest ys e said = refl
+said-item says line a (item.Leap count leap) rest ys e said = refl
 
-told-next : (says : List Stamp → Stamp → List ℕ) (line : ℕ → Stamp → List ℕ) (a : List Stamp) (n : ℕ) (s : Stamp) (os : List Outcome) (r : Result (Unit {0}) Refused) → OnOk r (says a s ≡ line (length a) s)
-    → told says (accepted_with a s r) os ≡ lines_of line (length (accepted_with a s r)) os
-    → told_of says a n s r ∷ told says (accepted_with a s r) os ≡ line_by line (length a) n s r ∷ lines_of line (length a + (if is_ok r then 1 else 0)) os
-told-next says line a n s os (Ok o) here more = ap₂ (λ (l : List ℕ) (ls : List (List ℕ)). l ∷ ls) here (more ∙ ap (λ (k : ℕ). lines_of line k os) (length_push a s))
-told-next says line a n s os (Err why) here more = ap (λ (ls : List (List ℕ)). refused_text n why ∷ ls) (more ∙ ap (λ (k : ℕ). lines_of line k os) (let same : length a ≡ length a + 0 = omega arith in same))
+said-here : (says : List Item → Stamp → List ℕ) (line : ℕ → Stamp → List ℕ) (a : List Item) (n : ℕ) (x : Item) (r : Result (Unit {0}) Refused) (rest ys : List Item) → ys ≡ accepted_with a x r ++ rest → AreSaid says line ys → told_of says a n x r ≡ line_by line (length (stamps_of a)) n x r
+said-here says line a n x (Ok o) rest ys e said = said-item says line a x rest ys e said
+said-here says line a n x (Err why) rest ys e said = refl
 
-told-lines : (says : List Stamp → Stamp → List ℕ) (line : ℕ → Stamp → List ℕ) (freq : ℕ) (a : List Stamp) (xs : List StampLine) → AreSaid says line (accepted_among freq a xs) → told says a (outcomes freq a xs) ≡ lines_of line (length a) (outcomes freq a xs)
+told-lines : (says : List Item → Stamp → List ℕ) (line : ℕ → Stamp → List ℕ) (freq : ℕ) (a : List Item) (xs : List ItemLine) → AreSaid says line (accepted_among freq a xs) → told says a (outcomes freq a xs) ≡ lines_of line (length (stamps_of a)) (outcomes freq a xs)
 told-lines says line freq a [] said = refl
 told-lines says line freq a (x ∷ xs) said =
-    let r = accept_of (last_of a) x.stamp freq in
-    let b = accepted_with a x.stamp r in
+    let r = accept_item freq a x.item in
+    let b = accepted_with a x.item r in
     let later = among-starts freq b xs in
-    told-next says line a x.line x.stamp (outcomes freq b xs) r (said-here says line a x.stamp r later.0 (accepted_among freq b xs) later.1 said) (told-lines says line freq b xs said)
+    ap₂ (λ (l : List ℕ) (ls : List (List ℕ)). l ∷ ls) (said-here says line a x.line x.item r later.0 (accepted_among freq b xs) later.1 said)
+    (told-lines says line freq b xs said ∙ ap (λ (k : ℕ). lines_of line k (outcomes freq b xs)) (with-stamps a x.item r))
 
-report-lines : (head : ReportHead) (says : List Stamp → Stamp → List ℕ) (line : ℕ → Stamp → List ℕ) (freq : ℕ) (xs : List StampLine) → AreSaid says line (accepted_among freq [] xs) → report head says (outcomes freq [] xs) ≡ stamp_report head line (outcomes freq [] xs)
+report-lines : (head : ReportHead) (says : List Item → Stamp → List ℕ) (line : ℕ → Stamp → List ℕ) (freq : ℕ) (xs : List ItemLine) → AreSaid says line (accepted_among freq [] xs) → report head says (outcomes freq [] xs) ≡ stamp_report head line (outcomes freq [] xs)
 unfolding report stamp_report
 report-lines head says line freq xs said = ap (λ (ls : List (List ℕ)). (head_text head ∷ ls) ++ end_text (end_counts (outcomes freq [] xs) None) ∷ []) (told-lines says line freq [] xs said)
 
@@ -78,47 +87,65 @@ value-at f n k within =
     let many = length-map-range_with_len f 0 n in
     slice_get-get_or (map f (range_with_len 0 n)) k (f k) (omega (arith, many, within)) ∙ ap (λ x. Some x) (get_or-map-range_with_len f 0 n k k (f k) within (omega arith))
 
-module _ (freq : ℕ) (all front : List Stamp) (s : Stamp) (rest : List Stamp) (is : all ≡ front ++ (s ∷ rest)) where
-  within : length front < length all
-  within = omega (arith, ap length is, length-append front (s ∷ rest))
+-- what more items say stands behind what is said before them
+events-start : (freq : ℕ) (xs rest : List Item) → (more : List Event) × (events_of freq (xs ++ rest) ≡ events_of freq xs ++ more)
+events-start freq xs [] = ([], ap (events_of freq) (append-nil xs) ∙ sym (append-nil (events_of freq xs)))
+events-start freq xs (y ∷ ys) =
+    let later = events-start freq (xs ++ y ∷ []) ys in
+    let here = option_to_list (event_behind freq xs y) in
+    (here ++ later.0, ap (events_of freq) (sym (append_assoc xs (y ∷ []) ys)) ∙ later.1 ∙ ap (λ (es : List Event). es ++ later.0) (events-push freq xs y) ∙ append_assoc (events_of freq xs) here later.0)
 
-  regrouped : all ≡ (front ++ s ∷ []) ++ rest
-  regrouped = is ∙ sym (append_assoc front (s ∷ []) rest)
+-- where a stamp stands among accepted items
+module _ (freq : ℕ) (items front : List Item) (s : Stamp) (rest : List Item) (is : items ≡ front ++ (item.Stamp s ∷ rest)) where
+  cut : stamps_of items ≡ stamps_of front ++ (s ∷ stamps_of rest)
+  cut = ap stamps_of is ∙ filter_map-append stamp_of_item front (item.Stamp s ∷ rest)
 
-  so-far : length front < length (front ++ s ∷ [])
-  so-far = omega (arith, length_push front s)
+  within : length (stamps_of front) < length (stamps_of items)
+  within = omega (arith, ap length cut, length-append (stamps_of front) (s ∷ stamps_of rest))
 
-  stamp-at : slice_get all (length front) ≡ Some s
-  stamp-at = ap (λ (xs : List Stamp). slice_get xs (length front)) is ∙ seam front s rest
+  regrouped : stamps_of items ≡ (stamps_of front ++ s ∷ []) ++ stamps_of rest
+  regrouped = cut ∙ sym (append_assoc (stamps_of front) (s ∷ []) (stamps_of rest))
 
-  base-at : slice_get (bases_of freq all) (length front) ≡ Some (base_at freq (front ++ s ∷ []) (length front))
+  so-far : length (stamps_of front) < length (stamps_of front ++ s ∷ [])
+  so-far = omega (arith, length_push (stamps_of front) s)
+
+  stamp-at : slice_get (stamps_of items) (length (stamps_of front)) ≡ Some s
+  stamp-at = ap (λ (xs : List Stamp). slice_get xs (length (stamps_of front))) cut ∙ seam (stamps_of front) s (stamps_of rest)
+
+  base-at : slice_get (bases_of freq (stamps_of items)) (length (stamps_of front)) ≡ Some (base_at freq (stamps_of front ++ s ∷ []) (length (stamps_of front)))
   unfolding bases_of
-  base-at = value-at (base_at freq all) (length all) (length front) within ∙ ap (λ b. Some b) (ap (λ (xs : List Stamp). base_at freq xs (length front)) regrouped ∙ base_at-append freq (front ++ s ∷ []) rest (length front) so-far)
+  base-at = value-at (base_at freq (stamps_of items)) (length (stamps_of items)) (length (stamps_of front)) within ∙ ap (λ b. Some b) (ap (λ (xs : List Stamp). base_at freq xs (length (stamps_of front))) regrouped ∙ base_at-append freq (stamps_of front ++ s ∷ []) (stamps_of rest) (length (stamps_of front)) so-far)
 
-  full-at : slice_get (fold_of freq all) (length front) ≡ Some (full_at freq (front ++ s ∷ []) (length front))
-  unfolding fold_of
-  full-at = value-at (full_at freq all) (length all) (length front) within ∙ ap (λ f. Some f) (ap (λ (xs : List Stamp). full_at freq xs (length front)) regrouped ∙ full_at-append freq (front ++ s ∷ []) rest (length front) so-far)
+  full-at : slice_get (fulls_of (events_of freq items)) (length (stamps_of front)) ≡ Some (full_behind freq front s)
+  full-at =
+      let f = full_behind freq front s in
+      let before : List Full = fulls_of (events_of freq front) in
+      let later = events-start freq (front ++ item.Stamp s ∷ []) rest in
+      let events : events_of freq items ≡ events_of freq front ++ (event.Estimate f ∷ later.0) =
+      ap (events_of freq) (is ∙ sym (append_assoc front (item.Stamp s ∷ []) rest)) ∙ later.1 ∙ ap (λ (es : List Event). es ++ later.0) (events-push freq front (item.Stamp s)) ∙ append_assoc (events_of freq front) (event.Estimate f ∷ []) later.0 in
+      let all : fulls_of (events_of freq items) ≡ before ++ (f ∷ fulls_of later.0) = ap fulls_of events ∙ filter_map-append full_of_event (events_of freq front) (event.Estimate f ∷ later.0) in
+      ap₂ (λ (fs : List Full) (n : ℕ). slice_get fs n) all (sym (many-estimates freq front)) ∙ seam before f (fulls_of later.0)
 
--- the three reports on stamps
-pub stamps-by-list : (freq : ℕ) (xs : List StampLine) → report (head.Stamps freq) (stamps_says freq) (outcomes freq [] xs) ≡ stamps_report freq (outcomes freq [] xs) (accepted_among freq [] xs)
-stamps-by-list freq xs =
-    let all = accepted_among freq [] xs in
-    report-lines (head.Stamps freq) (stamps_says freq) (λ n s. of_nth (stamp_text n) all n) freq xs (λ front s rest is. sym (of-nth (stamp_text (length front)) all (length front) s (stamp-at freq all front s rest is)))
+-- the three reports on items
+pub stamps-by-list : (h : Head) (xs : List ItemLine) → report (head.Stamps h.freq h.version) (stamps_says h) (outcomes h.freq [] xs) ≡ stamps_report h (outcomes h.freq [] xs) (stamps_of (accepted_among h.freq [] xs))
+stamps-by-list h xs =
+    let all = accepted_among h.freq [] xs in
+    report-lines (head.Stamps h.freq h.version) (stamps_says h) (λ n s. of_nth (λ s. stamp_text n s h.version) (stamps_of all) n) h.freq xs (λ front s rest is. sym (of-nth (λ s. stamp_text (length (stamps_of front)) s h.version) (stamps_of all) (length (stamps_of front)) s (stamp-at h.freq all front s rest is)))
 
-pub rtt-by-list : (freq : ℕ) (xs : List StampLine) → report (head.Rtt freq) (rtt_says freq) (outcomes freq [] xs) ≡ rtt_report freq (outcomes freq [] xs) (bases_of freq (accepted_among freq [] xs))
-rtt-by-list freq xs =
-    let all = accepted_among freq [] xs in
-    report-lines (head.Rtt freq) (rtt_says freq) (λ n s. of_nth (base_text n (trip s)) (bases_of freq all) n) freq xs (λ front s rest is. sym (of-nth (base_text (length front) (trip s)) (bases_of freq all) (length front) _ (base-at freq all front s rest is)))
+pub rtt-by-list : (h : Head) (xs : List ItemLine) → report (head.Rtt h.freq h.version) (rtt_says h) (outcomes h.freq [] xs) ≡ rtt_report h (outcomes h.freq [] xs) (bases_of h.freq (stamps_of (accepted_among h.freq [] xs)))
+rtt-by-list h xs =
+    let all = accepted_among h.freq [] xs in
+    report-lines (head.Rtt h.freq h.version) (rtt_says h) (λ n s. of_nth (base_text n (trip s)) (bases_of h.freq (stamps_of all)) n) h.freq xs (λ front s rest is. sym (of-nth (base_text (length (stamps_of front)) (trip s)) (bases_of h.freq (stamps_of all)) (length (stamps_of front)) _ (base-at h.freq all front s rest is)))
 
-pub estimate-by-list : (freq : ℕ) (xs : List StampLine) → report (head.Estimate freq) (estimate_says freq) (outcomes freq [] xs) ≡ estimate_report freq (outcomes freq [] xs) (fold_of freq (accepted_among freq [] xs))
-estimate-by-list freq xs =
-    let all = accepted_among freq [] xs in
-    report-lines (head.Estimate freq) (estimate_says freq) (λ n s. of_nth (estimate_text n) (fold_of freq all) n) freq xs (λ front s rest is. sym (of-nth (estimate_text (length front)) (fold_of freq all) (length front) _ (full-at freq all front s rest is)))
+pub estimate-by-list : (h : Head) (xs : List ItemLine) → report (head.Estimate h.freq h.version) (estimate_says h) (outcomes h.freq [] xs) ≡ estimate_report h (outcomes h.freq [] xs) (fulls_of (events_of h.freq (accepted_among h.freq [] xs)))
+estimate-by-list h xs =
+    let all = accepted_among h.freq [] xs in
+    report-lines (head.Estimate h.freq h.version) (estimate_says h) (λ n s. of_nth (λ f. estimate_text n f h.version) (fulls_of (events_of h.freq all)) n) h.freq xs (λ front s rest is. sym (of-nth (λ f. estimate_text (length (stamps_of front)) f h.version) (fulls_of (events_of h.freq all)) (length (stamps_of front)) _ (full-at h.freq all front s rest is)))
 
-pub replay-by-list : (freq : ℕ) (o : Options) (xs : List StampLine) (ticks : List Hands) (logs : List (List Entry)) → replay_told (replay_head freq o) (estimate_says freq) (outcomes freq [] xs) ticks logs ≡ replay_report freq o (outcomes freq [] xs) (fold_of freq (accepted_among freq [] xs)) ticks logs
+pub replay-by-list : (h : Head) (o : Options) (xs : List ItemLine) (ticks : List Hands) (logs : List (List Entry)) → replay_told (replay_head h o) (estimate_says h) (outcomes h.freq [] xs) ticks logs ≡ replay_report h o (outcomes h.freq [] xs) (fulls_of (events_of h.freq (accepted_among h.freq [] xs))) ticks logs
 unfolding replay_told replay_report
-replay-by-list freq o xs ticks logs =
-    let all = accepted_among freq [] xs in
-    let q = outcomes freq [] xs in
-    let told = told-lines (estimate_says freq) (λ n s. of_nth (estimate_text n) (fold_of freq all) n) freq [] xs (λ front s rest is. sym (of-nth (estimate_text (length front)) (fold_of freq all) (length front) _ (full-at freq all front s rest is))) in
-    ap (λ (ls : List (List ℕ)). (((head_text (replay_head freq o) ∷ ls) ++ tick_lines 0 ticks) ++ log_lines 0 logs) ++ end_text (replay_counts q ticks logs) ∷ []) told
+replay-by-list h o xs ticks logs =
+    let all = accepted_among h.freq [] xs in
+    let q = outcomes h.freq [] xs in
+    let told = told-lines (estimate_says h) (λ n s. of_nth (λ f. estimate_text n f h.version) (fulls_of (events_of h.freq all)) n) h.freq [] xs (λ front s rest is. sym (of-nth (λ f. estimate_text (length (stamps_of front)) f h.version) (fulls_of (events_of h.freq all)) (length (stamps_of front)) _ (full-at h.freq all front s rest is))) in
+    ap (λ (ls : List (List ℕ)). (((head_text (replay_head h o) ∷ ls) ++ tick_lines 0 ticks) ++ log_lines 0 logs) ++ end_text (replay_counts q ticks logs) ∷ []) told

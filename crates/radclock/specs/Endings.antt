@@ -13,7 +13,8 @@ use Rattle.radclock.specs.Inputs.{accepted_among}
 use Rattle.radclock.specs.MadeRuns.{run_text}
 use Rattle.radclock.specs.Replays.{IsReplayed, IsRunOf}
 use Rattle.radclock.specs.Reports.{report_of}
-use Rattle.radclock.specs.declared.inputs.StampLine.{StampLine}
+use Rattle.stamp_text.specs.declared.lines.Head.{Head}
+use Rattle.radclock.specs.declared.inputs.ItemLine.{ItemLine}
 use Rattle.radclock.specs.declared.inputs.Stop.{Stop}
 use Rattle.radclock.specs.declared.inputs.Stop.TheVariants as stop
 use Rattle.radclock.specs.declared.ran.Asked.{Asked}
@@ -21,12 +22,12 @@ use Rattle.radclock.specs.declared.status.Status.{Status}
 use Rattle.radclock.specs.declared.status.Status.TheVariants as status
 
 -- what a report leaves of the desk: only a replay changes it
-abbrev pub Leaves : Report → ℕ → List StampLine → Desk → Desk → Type 0
-Leaves asked.Stamps freq stamps old new = new ≡ old
-Leaves asked.Rtt freq stamps old new = new ≡ old
-Leaves asked.Estimate freq stamps old new = new ≡ old
-Leaves (asked.Ticks ticks) freq stamps old new = new ≡ old
-Leaves (asked.Replay ticks readers reads back crank) freq stamps old new = IsReplayed (record { ticks = ticks; readers = readers; reads = reads; back = back; crank = crank }) freq (accepted_among freq [] stamps) new.pen
+abbrev pub Leaves : Report → ℕ → List ItemLine → Desk → Desk → Type 0
+Leaves asked.Stamps freq items old new = new ≡ old
+Leaves asked.Rtt freq items old new = new ≡ old
+Leaves asked.Estimate freq items old new = new ≡ old
+Leaves (asked.Ticks ticks) freq items old new = new ≡ old
+Leaves (asked.Replay ticks readers reads back crank) freq items old new = IsReplayed (record { ticks = ticks; readers = readers; reads = reads; back = back; crank = crank }) freq (accepted_among freq [] items) new.pen
 
 -- what a stop leaves of it. Memory may be wanting where passes were made already, but no tick
 abbrev pub LeavesAt : Stop → Desk → Desk → Type 0
@@ -41,9 +42,9 @@ abbrev pub EndsWith : {K : Type 0} (written : K → Option (List ℕ)) (faults :
 EndsWith written faults push old lines due result new = ((result ≡ due) × Wrote written faults push old lines new) ⊎ ((result ≡ status.WriteFault) × Broke written faults push old lines new)
 
 -- with the report that is asked for a run ends as it is to, or for want of memory
-abbrev pub Finishes : {K : Type 0} (written : K → Option (List ℕ)) (faults : K → ℕ) (push : K → List ℕ → Result (Unit {0}) Failed → K → Type 0) → Report → ℕ → List StampLine → K → Desk → Status → K → Desk → Type 0
-Finishes written faults push r freq stamps old desk result new desk' =
-    (Leaves r freq stamps desk desk' × EndsWith written faults push old (report_of r freq stamps desk'.pen) status.Done result new)
+abbrev pub Finishes : {K : Type 0} (written : K → Option (List ℕ)) (faults : K → ℕ) (push : K → List ℕ → Result (Unit {0}) Failed → K → Type 0) → Report → Head → List ItemLine → K → Desk → Status → K → Desk → Type 0
+Finishes written faults push r head items old desk result new desk' =
+    (Leaves r head.freq items desk desk' × EndsWith written faults push old (report_of r head items desk'.pen) status.Done result new)
     ⊎ (LeavesAt stop.Memory desk desk' × EndsWith written faults push old (fault_text fault.Memory ∷ []) status.NoMemory result new)
 
 -- and so it does with that on a run over made stamps

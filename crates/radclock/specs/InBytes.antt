@@ -3,6 +3,7 @@ use Rattle.std.specs.Prelude.{◌≡◌, ℕ, ◌-◌, ◌^◌, ◌<◌, ◌≤�
 use Rattle.std.specs.List.{All, concat}
 use Rattle.std.specs.Io.KnownBytes.{Appends, Consumes, IsAtEnd}
 use Rattle.stamp_text.specs.Grammar.{fault_of_file}
+use Rattle.stamp_text.specs.Past.{stamps_of}
 use Rattle.stamp_maker.specs.MadeStamps.{made_list}
 use Rattle.clock_words.specs.declared.commands.Command.{Command}
 use Rattle.clock_words.specs.declared.commands.Command.TheVariants as command
@@ -13,7 +14,7 @@ use Rattle.replay_run.specs.declared.plan.Options.{Options}
 use Rattle.ideal_world.specs.declared.deviations.Deviation.{Deviation}
 use Rattle.world_times.specs.Worlds.{IsFit, LiesIn}
 use Rattle.world_times.specs.declared.world.World.{World}
-use Rattle.radclock.specs.Inputs.{most_bytes, most_stamps, most_accepted, accepted_among, takes_few, freq_of_file, stamps_of_file}
+use Rattle.radclock.specs.Inputs.{most_bytes, most_items, most_accepted, counted_among, accepted_among, takes_few, head_of_file, freq_of_file, items_of_file}
 use Rattle.report_text.specs.MadeFiles.{file_lines_of}
 use Rattle.radclock.specs.Endings.{Leaves, replay_by}
 use Rattle.radclock.specs.MadeRuns.{run_by, run_text}
@@ -31,10 +32,10 @@ pub record WasRead (left left' written written' : Option (List ℕ)) (desk desk'
   pub ended : IsAtEnd left'
   pub sound : fault_of_file text ≡ None
   pub few_bytes : length text ≤ most_bytes
-  pub few_stamps : length (stamps_of_file text) ≤ most_stamps
-  pub few_accepted : takes_few r ≡ true → length (accepted_among (freq_of_file text) [] (stamps_of_file text)) ≤ most_accepted
-  pub leaves : Leaves r (freq_of_file text) (stamps_of_file text) desk desk'
-  pub wrote : Appends written written' (concat (report_of r (freq_of_file text) (stamps_of_file text) desk'.pen))
+  pub few_items : length (items_of_file text) ≤ most_items
+  pub few_accepted : takes_few r ≡ true → counted_among (freq_of_file text) (items_of_file text) ≤ most_accepted
+  pub leaves : Leaves r (freq_of_file text) (items_of_file text) desk desk'
+  pub wrote : Appends written written' (concat (report_of r (head_of_file text) (items_of_file text) desk'.pen))
 
 -- what was read and appended: a report on the input, or a made file or the report on a run over made
 -- stamps, and then nothing was read
@@ -51,9 +52,9 @@ pub record HeadlineInBytes (left left' written written' : Option (List ℕ)) (op
   pub ended : IsAtEnd left'
   pub sound : fault_of_file text ≡ None
   -- what was appended is the report on it, with the pen's own journal, and the logs that it took in
-  pub printed : Appends written written' (concat (report_of (replay_by options) (freq_of_file text) (stamps_of_file text) pen))
-  -- these are what a replay of the accepted stamps makes
-  pub replayed : IsReplayed options (freq_of_file text) (accepted_among (freq_of_file text) [] (stamps_of_file text)) pen
+  pub printed : Appends written written' (concat (report_of (replay_by options) (head_of_file text) (items_of_file text) pen))
+  -- these are what a replay of the accepted items makes
+  pub replayed : IsReplayed options (freq_of_file text) (accepted_among (freq_of_file text) [] (items_of_file text)) pen
 
 -- What a run over made stamps printed and left
 pub record RunInBytes (left left' written written' : Option (List ℕ)) (a : Asked) (pen : PenShows) : Type 0 where
@@ -88,6 +89,6 @@ pub record TruthInBytes (left left' written written' : Option (List ℕ)) (r : R
   pub text : List ℕ
   pub bytes : Consumes left left' text
   pub ended : IsAtEnd left'
-  pub printed : Appends written written' (concat (report_of r (freq_of_file text) (stamps_of_file text) pen))
+  pub printed : Appends written written' (concat (report_of r (head_of_file text) (items_of_file text) pen))
   -- in each world that fits the frequency, and in which the accepted stamps lie, it is true
-  pub holds : (w : World) → IsFit (freq_of_file text) w → All (LiesIn w) (accepted_among (freq_of_file text) [] (stamps_of_file text)) → TellsTrue w r (freq_of_file text) (accepted_among (freq_of_file text) [] (stamps_of_file text)) pen
+  pub holds : (w : World) → IsFit (freq_of_file text) w → All (LiesIn w) (stamps_of (accepted_among (freq_of_file text) [] (items_of_file text))) → TellsTrue w r (freq_of_file text) (accepted_among (freq_of_file text) [] (items_of_file text)) pen

@@ -2,7 +2,7 @@
 use Rattle.std.specs.Prelude.{ℕ, ◌-◌, List, [], ◌∷◌, ◌++◌, length, count_by, Option, None, Some}
 use Rattle.stamp_maker.specs.Worlds.{frequency}
 use Rattle.ff_hands.specs.declared.hands.Hands.{Hands}
-use Rattle.ff_estimator.specs.Folds.{fold_of}
+use Rattle.ff_estimator.specs.Events.{events_of, fulls_of}
 use Rattle.ff_estimator.specs.declared.fulls.Full.{Full}
 use Rattle.clock_core.specs.Machines.{newest}
 use Rattle.clock_words.specs.Lines.{IsCommandInRange}
@@ -15,7 +15,7 @@ use Rattle.report_text.specs.declared.lines.EndCounts.{EndCounts}
 use Rattle.report_text.specs.declared.lines.ReportHead.{ReportHead}
 use Rattle.report_text.specs.declared.lines.ReportHead.TheVariants as head
 use Rattle.report_text.specs.declared.lines.Summary.{Summary}
-use Rattle.radclock.specs.Replays.{logs_of, run_stamps}
+use Rattle.radclock.specs.Replays.{logs_of, run_items}
 use Rattle.radclock.specs.Plays.{entries_in}
 use Rattle.radclock.specs.Reports.{of_nth}
 use Rattle.radclock.specs.declared.ran.Asked.{Asked}
@@ -30,7 +30,7 @@ IsAskedInRange asked = IsCommandInRange (run_by asked)
 
 -- all that a daemon says of them
 abbrev pub run_fulls : Asked → List Full
-run_fulls asked = fold_of frequency (run_stamps asked)
+run_fulls asked = fulls_of (events_of frequency (run_items asked))
 
 -- what its summary counts, where each stamp is accepted
 abbrev pub summary_of : List Full → Summary
@@ -56,7 +56,7 @@ told_lines (Some f) = ideal_text f.tick f.distance f.bound ∷ []
 -- and how it ends: the last estimate, the last tick, and what there is of each
 abbrev pub closing_lines : List Full → List Hands → ℕ → List (List ℕ)
 closing_lines fulls ticks entries =
-    of_nth (estimate_text (length fulls - 1)) fulls (length fulls - 1)
+    of_nth (λ f. estimate_text (length fulls - 1) f 1) fulls (length fulls - 1)
     ∷ tick_text (length ticks - 1) (newest ticks)
     ∷ end_text (run_counts fulls ticks entries)
     ∷ []

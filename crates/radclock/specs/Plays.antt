@@ -1,7 +1,7 @@
 -- What a replay wants before it is played, and what is printed of it.
 use Rattle.std.specs.Prelude.{◌≡◌, ℕ, ◌+◌, ◌*◌, ◌<◌, ◌≤◌, ◌^◌, false, List, [], ◌∷◌, length, map}
 use Rattle.std.specs.List.{All}
-use Rattle.stamp_text.specs.declared.lines.Stamp.{Stamp}
+use Rattle.stamp_text.specs.declared.lines.Item.{Item}
 use Rattle.ff_hands.specs.Windups.{cold}
 use Rattle.clock_lines.specs.declared.readings.Entry.{Entry}
 use Rattle.tick_desk.specs.Shows.{PenShows}
@@ -17,15 +17,15 @@ abbrev pub entries_in : List (List Entry) → ℕ
 entries_in [] = 0
 entries_in (es ∷ logs) = length es + entries_in logs
 
--- the plan of accepted stamps
-pub record IsPlanFor (freq : ℕ) (options : Options) (all : List Stamp) (p : Plan) : Type 0 where
+-- the plan of accepted items
+pub record IsPlanFor (freq : ℕ) (options : Options) (all : List Item) (p : Plan) : Type 0 where
   pub freq_is : p.freq ≡ freq
   pub options_is : p.options ≡ options
   pub steps : p.steps.items ≡ steps_by freq options.ticks all
   pub fits : PlanFits 0 0 p.steps.items
 
 -- all that a play wants is there
-pub record IsReadyFor (freq : ℕ) (options : Options) (all : List Stamp) (plan : Plan) (logs : List ReadLog) (pen : PenShows) : Type 0 where
+pub record IsReadyFor (freq : ℕ) (options : Options) (all : List Item) (plan : Plan) (logs : List ReadLog) (pen : PenShows) : Type 0 where
   pub plan_is : IsPlanFor freq options all plan
   pub logs_are : AreReady pen.table options.reads logs
   pub many : length logs ≡ options.readers

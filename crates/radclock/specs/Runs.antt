@@ -5,7 +5,8 @@ use Rattle.rad_io.specs.Blocks.{Short}
 use Rattle.rad_io.specs.Pulls.{Pulled, Pulls}
 use Rattle.rad_io.specs.Pushes.{Pushes}
 use Rattle.rad_io.specs.declared.Failed.{Failed}
-use Rattle.stamp_text.specs.declared.lines.Stamp.{Stamp}
+use Rattle.stamp_text.specs.Past.{stamps_of}
+use Rattle.stamp_text.specs.declared.lines.Item.{Item}
 use Rattle.ff_hands.specs.Windups.{cold}
 use Rattle.stamp_maker.specs.MadeStamps.{made_list}
 use Rattle.report_text.specs.Text.{fault_text}
@@ -19,7 +20,7 @@ use Rattle.tick_desk.specs.declared.desk.Desk.{Desk}
 use Rattle.world_times.specs.Worlds.{IsFit, LiesIn}
 use Rattle.world_times.specs.declared.world.World.{World}
 use Rattle.ideal_world.specs.declared.deviations.Deviation.{Deviation}
-use Rattle.radclock.specs.Inputs.{accepted_among, takes_few, freq_of_file, stamps_of_file, stop_so_far, stop_of_file}
+use Rattle.radclock.specs.Inputs.{accepted_among, takes_few, head_of_file, freq_of_file, items_of_file, stop_so_far, stop_of_file}
 use Rattle.radclock.specs.MadeRuns.{run_text}
 use Rattle.radclock.specs.Replays.{IsReplayed, IsRunOf, MadeTruth, TellsTrue}
 use Rattle.radclock.specs.Reports.{report_of}
@@ -88,9 +89,9 @@ pub record ByBlocks {K : Type 0} (push : PushGives K) (old : K) (lines : List (L
   pub bytes : concat blocks ≡ concat lines
   pub pushed : ByLines (Short push) old blocks answer new
 
--- the stamps of a text that are accepted
-abbrev pub accepted_of_file : List ℕ → List Stamp
-accepted_of_file text = accepted_among (freq_of_file text) [] (stamps_of_file text)
+-- the items of a text that are accepted
+abbrev pub accepted_of_file : List ℕ → List Item
+accepted_of_file text = accepted_among (freq_of_file text) [] (items_of_file text)
 
 -- nothing is pulled
 pub record IsUnread {S : Type 0} (old : S) (text : List ℕ) (new : S) : Type 0 where
@@ -123,7 +124,7 @@ ends_with due (Err e) = status.WriteFault
 -- the lines of a done run: a report on the text, a made file, or the report on a run over made stamps
 abbrev pub done_lines : Option Command → List ℕ → Option Deviation → PenShows → List (List ℕ)
 done_lines None text told pen = []
-done_lines (Some (command.Report r)) text told pen = report_of r (freq_of_file text) (stamps_of_file text) pen
+done_lines (Some (command.Report r)) text told pen = report_of r (head_of_file text) (items_of_file text) pen
 done_lines (Some (command.Make number count)) text told pen = file_lines_of (made_list number count)
 done_lines (Some (command.Run number count ideal)) text told pen = run_text (record { number = number; count = count; ideal = ideal }) told pen
 
@@ -137,7 +138,7 @@ lines_due asked text told pen status.WriteFault = []
 lines_due asked text told pen status.NoMemory = fault_text fault.Memory ∷ []
 lines_due asked text told pen (status.TooLarge l) = fault_text (fault.Large l) ∷ []
 
--- The headline. Of a replay: what the pen shows is the replay of the text's accepted stamps, each point of which has its
+-- The headline. Of a replay: what the pen shows is the replay of the text's accepted items, each point of which has its
 -- name in `IsReplayed`. Of a run over made stamps: it is that of these, and what is told of the truth is so (`IsRunOf`)
 abbrev pub Headline : Option Command → List ℕ → Option Deviation → PenShows → Type 0
 Headline None text told pen = ⊤
@@ -152,7 +153,7 @@ Headline (Some (command.Run number count ideal)) text told pen = IsRunOf (record
 -- The truth: what was told is true in each world that fits the frequency and in which the accepted stamps lie
 abbrev pub Truth : Option Command → List ℕ → PenShows → Type 0
 Truth None text pen = ⊤
-Truth (Some (command.Report r)) text pen = (w : World) → IsFit (freq_of_file text) w → All (LiesIn w) (accepted_of_file text) → TellsTrue w r (freq_of_file text) (accepted_of_file text) pen
+Truth (Some (command.Report r)) text pen = (w : World) → IsFit (freq_of_file text) w → All (LiesIn w) (stamps_of (accepted_of_file text)) → TellsTrue w r (freq_of_file text) (accepted_of_file text) pen
 Truth (Some (command.Make number count)) text pen = ⊤
 Truth (Some (command.Run number count ideal)) text pen = MadeTruth (record { number = number; count = count; ideal = ideal }) pen
 

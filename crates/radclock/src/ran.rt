@@ -1,13 +1,15 @@
 // The command `run`.
-ghost use Rattle.std.specs.Prelude.{◌≡◌, ◌-◌, ◌<◌, IfOk, Some, count_by, length, slice_get};
+ghost use Rattle.std.specs.Prelude.{◌≡◌, ◌-◌, ◌<◌, IfOk, Some, count_by, length, slice_get, OnOk, ◌++◌};
 ghost use Rattle.rad_io.specs.Pushes.{Writes};
+ghost use Rattle.stamp_text.specs.Past.{AreAcceptedItems};
 ghost use Rattle.stamp_maker.specs.Worlds.{frequency};
-ghost use Rattle.ff_estimator.specs.Folds.{AreOf};
+ghost use Rattle.ff_estimator.specs.Events.{AreOf, full_of_event, fulls_of};
+ghost use Rattle.std.specs.Option.{option_to_list};
 ghost use Rattle.ff_hands.specs.Journals.{IsJournal};
 ghost use Rattle.clock_core.specs.Machines.{newest};
 ghost use Rattle.tick_desk.specs.Shows.{IsFresh};
 ghost use Rattle.radclock.specs.MadeRuns.{IsAskedInRange, run_fulls, run_head, summary_of, run_counts, opening_lines, told_lines, closing_lines, run_lines, run_text};
-ghost use Rattle.radclock.specs.Replays.{logs_of, run_options, run_stamps, IsTold};
+ghost use Rattle.radclock.specs.Replays.{logs_of, run_options, run_items, IsTold};
 ghost use Rattle.radclock.specs.Plays.{IsReadyFor, entries_in};
 ghost use Rattle.radclock.specs.Endings.{EndsWith, Summarises};
 
@@ -15,7 +17,7 @@ use crate::faults::refuse;
 use crate::gather::gather_made;
 use crate::replay::open;
 use crate::status::Status;
-use ff_estimator::Full;
+use ff_estimator::{Event, Full};
 use ff_grain::NoMemory;
 use ff_hands::Hands;
 use ideal_world::{Deviation, Watched, farthest};
@@ -52,6 +54,9 @@ const OPTIONS: Options = Options {
     crank: false,
 };
 
+/// The version of a file of made stamps.
+const VERSION: u32 = 1;
+
 // What a run wants before its first tick: the estimates, their plan, and the readers' logs with their
 // passes.
 #[derive(Drop)]
@@ -62,19 +67,41 @@ struct Ready {
 }
 
 // Makes the stamps, and feeds each to a daemon that is watched in the made world, which accepts it.
-fn made_fulls<L: Ledger>(
+fn made_events<L: Ledger>(
     alloc: Global,
     asked: &Asked,
     steps: &mut Steps<L>,
-) -> Result<Vec<Full>, NoMemory>
+) -> Result<Vec<Event>, NoMemory>
     requires asked { IsAskedInRange asked.now }
-    ensures { IfOk result (λ fulls. AreOf fulls.items frequency (run_stamps asked.now)) }
+    ensures { IfOk result (λ events. AreOf events.items frequency (run_items asked.now)) }
 {
     let mut watched = Watched::new(alloc, made_world(), FREQ)?;
-    let mut fulls = Vec::new(alloc);
+    let mut events = Vec::new(alloc);
     let mut maker = Maker::new(asked.number, asked.count);
     while let Some(made) = maker.next() {
-        gather_made(&mut watched, &mut fulls, made.stamp(), steps)?;
+        gather_made(&mut watched, &mut events, made.stamp(), steps)?;
+    }
+    Ok(events)
+}
+
+// Keeps the estimate of an event, if it is one.
+fn push_full(fulls: &mut Vec<Full>, event: &Event) -> Result<(), NoMemory>
+    ensures { OnOk result (fulls.new.items ≡ fulls.old.items ++ option_to_list (full_of_event event.now)) }
+{
+    match event {
+        Event::Estimate(full) => fulls.push(*full)?,
+        Event::Set { .. } => {}
+    }
+    Ok(())
+}
+
+// The estimates among events.
+fn fulls_of(alloc: Global, events: &[Event]) -> Result<Vec<Full>, NoMemory>
+    ensures { IfOk result (λ fulls. fulls.items ≡ fulls_of events.now) }
+{
+    let mut fulls = Vec::new(alloc);
+    for event in events {
+        push_full(&mut fulls, event)?;
     }
     Ok(fulls)
 }
@@ -88,13 +115,15 @@ fn prepare<L: Ledger>(
 ) -> Result<Ready, NoMemory>
     requires asked { IsAskedInRange asked.now }
     requires fresh { IsFresh desk.old.pen desk.old.passes.items }
-    ensures ready { IfOk result (λ r. IsReadyFor frequency run_options (run_stamps asked.now)
+    ensures ready { IfOk result (λ r. IsReadyFor frequency run_options (run_items asked.now)
         r.plan r.logs.items desk.new.pen) }
-    ensures fulls { IfOk result (λ r. AreOf r.fulls.items frequency (run_stamps asked.now)) }
+    ensures accepted { IfOk result (λ r. AreAcceptedItems frequency (run_items asked.now)) }
+    ensures fulls { IfOk result (λ r. r.fulls.items ≡ run_fulls asked.now) }
     ensures journal { desk.new.pen.journal ≡ desk.old.pen.journal }
 {
-    let fulls = made_fulls(alloc, asked, steps)?;
-    let plan = Plan::of(alloc, FREQ, &fulls, &OPTIONS)?;
+    let events = made_events(alloc, asked, steps)?;
+    let fulls = fulls_of(alloc, &events)?;
+    let plan = Plan::of(alloc, FREQ, &events, &OPTIONS)?;
     let logs = open(alloc, desk, &plan)?;
     Ok(Ready { fulls, plan, logs })
 }
@@ -201,7 +230,7 @@ fn push_closing<K: Sink>(
         ticks: Some(ticks.len() as u64),
         entries: Some(entries),
     };
-    estimate_line(sink, fulls.len() as u64 - 1, &last_full(fulls))?;
+    estimate_line(sink, fulls.len() as u64 - 1, &last_full(fulls), VERSION)?;
     tick_line(sink, ticks.len() as u64 - 1, &newest(ticks))?;
     end_line(sink, &counts)
 }

@@ -1,6 +1,6 @@
 // The command `replay`.
 ghost use Rattle.std.specs.Prelude.{◌≡◌, ◌≤◌, ℕ, List, [], IfOk};
-ghost use Rattle.stamp_text.specs.declared.lines.Stamp.{Stamp};
+ghost use Rattle.stamp_text.specs.declared.lines.Item.{Item};
 ghost use Rattle.ff_estimator.specs.Daemons.{StandsFor};
 ghost use Rattle.tick_desk.specs.Shows.{IsFresh};
 ghost use Rattle.radclock.specs.Inputs.{IsRanged, accepted_among};
@@ -12,7 +12,7 @@ ghost use Rattle.radclock.specs.Endings.{EndsWith, Finishes, replay_by};
 
 use crate::estimates::Estimates;
 use crate::faults::refuse;
-use crate::gather::fulls_of;
+use crate::gather::said_by;
 use crate::inputs::StampFile;
 use crate::reports::push_replay;
 use crate::status::Status;
@@ -36,20 +36,20 @@ struct Ready {
     daemon: Daemon,
 }
 
-// The plan to replay the estimates of a file's accepted stamps.
+// The plan to replay what a file's accepted items say.
 fn plan_for_file<L: Ledger>(
     alloc: Global,
     file: &StampFile,
     options: &Options,
     steps: &mut Steps<L>,
 ) -> Result<Plan, NoMemory>
-    requires ranged { IsRanged file.now.freq file.now.stamps.items }
+    requires ranged { IsRanged file.now.head.freq file.now.items.items }
     requires options { AreOptionsInRange options.now }
-    ensures { IfOk result (IsPlanFor file.now.freq options.now
-        (accepted_among file.now.freq [] file.now.stamps.items)) }
+    ensures { IfOk result (IsPlanFor file.now.head.freq options.now
+        (accepted_among file.now.head.freq [] file.now.items.items)) }
 {
-    let fulls = fulls_of(alloc, file, steps)?;
-    Plan::of(alloc, file.freq, &fulls, options)
+    let said = said_by(alloc, file, steps)?;
+    Plan::of(alloc, file.head.freq, &said.events, options)
 }
 
 /// Takes the memory that the play of a plan wants of a desk with which nothing was done: room for its
@@ -57,7 +57,7 @@ fn plan_for_file<L: Ledger>(
 pub fn open(alloc: Global, desk: &mut Desk, plan: &Plan) -> Result<Vec<ReadLog>, NoMemory>
     requires readers { plan.now.options.readers ≤ 16 }
     requires fresh { IsFresh desk.old.pen desk.old.passes.items }
-    ensures ready { IfOk result (λ logs. (freq : ℕ) (options : Options) (all : List Stamp) →
+    ensures ready { IfOk result (λ logs. (freq : ℕ) (options : Options) (all : List Item) →
         IsPlanFor freq options all plan.now →
         IsReadyFor freq options all plan.now logs.items desk.new.pen) }
     ensures journal { desk.new.pen.journal ≡ desk.old.pen.journal }
@@ -77,16 +77,16 @@ fn prepare<L: Ledger>(
     steps: &mut Steps<L>,
     desk: &mut Desk,
 ) -> Result<Ready, NoMemory>
-    requires ranged { IsRanged file.now.freq file.now.stamps.items }
+    requires ranged { IsRanged file.now.head.freq file.now.items.items }
     requires options { AreOptionsInRange options.now }
     requires fresh { IsFresh desk.old.pen desk.old.passes.items }
-    ensures ready { IfOk result (λ r. IsReadyFor file.now.freq options.now
-        (accepted_among file.now.freq [] file.now.stamps.items) r.plan r.logs.items desk.new.pen) }
-    ensures daemon { IfOk result (λ r. StandsFor r.daemon file.now.freq []) }
+    ensures ready { IfOk result (λ r. IsReadyFor file.now.head.freq options.now
+        (accepted_among file.now.head.freq [] file.now.items.items) r.plan r.logs.items desk.new.pen) }
+    ensures daemon { IfOk result (λ r. StandsFor r.daemon file.now.head.freq []) }
     ensures journal { desk.new.pen.journal ≡ desk.old.pen.journal }
 {
     let plan = plan_for_file(alloc, file, options, steps)?;
-    let daemon = Daemon::new(alloc, file.freq)?;
+    let daemon = Daemon::new(alloc, file.head.freq)?;
     let logs = open(alloc, desk, &plan)?;
     Ok(Ready { plan, logs, daemon })
 }
@@ -100,19 +100,21 @@ fn tell<K: Sink, L: Ledger>(
     pen: &Pen,
     logs: &[ReadLog],
 ) -> Status
-    requires ranged { IsRanged file.now.freq file.now.stamps.items }
-    requires fresh { StandsFor telling.old.daemon file.now.freq [] }
+    requires ranged { IsRanged file.now.head.freq file.now.items.items }
+    requires version { telling.old.version ≡ file.now.head.version }
+    requires fresh { StandsFor telling.old.daemon file.now.head.freq [] }
     requires printed { ArePrinted options.now pen.now logs.now }
     ensures { EndsWith K.written K.faults K.push_gives sink.old (report_of (replay_by options.now)
-        file.now.freq file.now.stamps.items pen.now) Status.Done result sink.new }
+        file.now.head file.now.items.items pen.now) Status.Done result sink.new }
 {
     let head = ReportHead::Replay {
-        freq: file.freq,
+        freq: file.head.freq,
         ticks: options.ticks,
         readers: options.readers,
         reads: options.reads,
         back: options.back,
         crank: options.crank,
+        version: file.head.version,
     };
     let entries = u64::from(options.readers) * u64::from(options.reads);
     match push_replay(sink, telling, &head, file, pen.journal(), logs, entries) {
@@ -121,7 +123,7 @@ fn tell<K: Sink, L: Ledger>(
     }
 }
 
-/// Plays the estimates of a file's accepted stamps on a fresh desk, beside readers, and pushes the
+/// Plays what a file's accepted items say on a fresh desk, beside readers, and pushes the
 /// report. All memory is taken before the first tick.
 pub fn replay<R: Threads + Sync, K: Sink, G: Gate, L: Ledger>(
     rt: &R,
@@ -133,11 +135,11 @@ pub fn replay<R: Threads + Sync, K: Sink, G: Gate, L: Ledger>(
     desk: &mut Desk,
     gate: &G,
 ) -> Status
-    requires ranged { IsRanged file.now.freq file.now.stamps.items }
+    requires ranged { IsRanged file.now.head.freq file.now.items.items }
     requires options { AreOptionsInRange options.now }
     requires fresh { IsFresh desk.old.pen desk.old.passes.items }
-    ensures { Finishes K.written K.faults K.push_gives (replay_by options.now) file.now.freq
-        file.now.stamps.items sink.old desk.old result sink.new desk.new }
+    ensures { Finishes K.written K.faults K.push_gives (replay_by options.now) file.now.head
+        file.now.items.items sink.old desk.old result sink.new desk.new }
 {
     let mut steps = steps;
     match prepare(alloc, file, options, &mut steps, desk) {
@@ -148,7 +150,11 @@ pub fn replay<R: Threads + Sync, K: Sink, G: Gate, L: Ledger>(
                 daemon,
             } = ready;
             play(rt, desk, &plan, &mut logs, gate);
-            let mut telling = Estimates { daemon, steps };
+            let mut telling = Estimates {
+                version: file.head.version,
+                daemon,
+                steps,
+            };
             tell(sink, &mut telling, file, options, &desk.pen, &logs)
         }
         Err(NoMemory) => refuse(sink, FaultText::Memory, Status::NoMemory),

@@ -30,6 +30,7 @@ use rad_io::{Failed, Gate, Sink, Source};
 use replay_run::Options;
 use report_text::{FaultText, ReportHead};
 use rtt_window::Window;
+use stamp_text::Head;
 use std::alloc::Global;
 use std::marker::Brand;
 use std::sync::ledger::{Blank, Ledger};
@@ -37,17 +38,17 @@ use std::thread::Threads;
 use step_count::Steps;
 use tick_desk::Desk;
 
-// Pushes the report on a file by what tells of its stamps, and ends.
+// Pushes the report on a file by what tells of its items, and ends.
 fn report<K: Sink, T: Telling>(
     sink: &mut K,
     telling: &mut T,
     head: &ReportHead,
     file: &StampFile,
 ) -> Status
-    requires ranged { IsRanged file.now.freq file.now.stamps.items }
-    requires fresh { T.stands telling.old file.now.freq [] }
+    requires ranged { IsRanged file.now.head.freq file.now.items.items }
+    requires fresh { T.stands telling.old file.now.head [] }
     ensures { EndsWith K.written K.faults K.push_gives sink.old
-        (report head.now (T.says file.now.freq) (outcomes file.now.freq [] file.now.stamps.items))
+        (report head.now (T.says file.now.head) (outcomes file.now.head.freq [] file.now.items.items))
         Status.Done result sink.new }
 {
     match push_report(sink, telling, head, file) {
@@ -84,31 +85,46 @@ fn finish<R: Threads + Sync, K: Sink, G: Gate, L: Ledger>(
     requires parts { blank.parts ≡ L.parts }
     requires some { 0 < blank.parts }
     requires asked { IsReportInRange asked }
-    requires ranged { IsRanged file.now.freq file.now.stamps.items }
+    requires ranged { IsRanged file.now.head.freq file.now.items.items }
     requires fresh { IsFresh desk.old.pen desk.old.passes.items }
-    ensures { Finishes K.written K.faults K.push_gives asked file.now.freq file.now.stamps.items
+    ensures { Finishes K.written K.faults K.push_gives asked file.now.head file.now.items.items
         sink.old desk.old result sink.new desk.new }
 {
-    let freq = file.freq;
+    let Head { version, freq } = file.head;
     let mut steps = Steps::<L>::new(blank);
     match asked {
-        Report::Stamps => report(sink, &mut Stamps, &ReportHead::Stamps { freq }, file),
+        Report::Stamps => {
+            let head = ReportHead::Stamps { freq, version };
+            report(sink, &mut Stamps { version }, &head, file)
+        }
         Report::Rtt => match Window::new(alloc, freq) {
             Ok(window) => {
-                let head = ReportHead::Rtt { freq };
+                let head = ReportHead::Rtt { freq, version };
                 report(sink, &mut Bases { window, steps }, &head, file)
             }
             Err(NoMemory) => refuse(sink, FaultText::Memory, Status::NoMemory),
         },
         Report::Estimate => match Daemon::new(alloc, freq) {
             Ok(daemon) => {
-                let head = ReportHead::Estimate { freq };
-                report(sink, &mut Estimates { daemon, steps }, &head, file)
+                let head = ReportHead::Estimate { freq, version };
+                let mut telling = Estimates {
+                    version,
+                    daemon,
+                    steps,
+                };
+                report(sink, &mut telling, &head, file)
             }
             Err(NoMemory) => refuse(sink, FaultText::Memory, Status::NoMemory),
         },
         Report::Ticks { ticks } => match play_file(alloc, file, ticks, &mut steps) {
-            Ok(played) => report_ticks(sink, &ReportHead::Ticks { freq, ticks }, &played),
+            Ok(played) => {
+                let head = ReportHead::Ticks {
+                    freq,
+                    ticks,
+                    version,
+                };
+                report_ticks(sink, &head, &played)
+            }
             Err(NoMemory) => refuse(sink, FaultText::Memory, Status::NoMemory),
         },
         Report::Replay {
@@ -159,7 +175,8 @@ fn make<K: Sink>(sink: &mut K, number: u64, count: u32) -> Status
 ///
 /// - the journal is a legal one with the plan's orders; with a crank each of its counts is from the
 ///   plan's to the plan's greatest, and without one it is the plan's own journal;
-/// - the estimates that its ticks took are those of the accepted stamps, each once and in order;
+/// - the estimates that its ticks took are those of the accepted stamps, each once and in order, and behind
+///   the reset at its start it was reset by the accepted sets of the file and by nothing else;
 /// - there is one log for each reader, with as many entries as attempts were asked for;
 /// - each log is legal over the journal: each reading is the value by one tick, at a count not past
 ///   the next tick;

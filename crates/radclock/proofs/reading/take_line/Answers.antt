@@ -4,15 +4,15 @@ use Rattle.radclock.proofs.Gathering.{reads-line, line-tests, IsInputStop-weaker
 use Rattle.radclock.proofs.Pieces.{front-stops}
 use Rattle.radclock.proofs.reading.take_line.Goals as goal
 
-pub keep-requires-clause-tests : goal.keep-requires-clause-tests
-keep-requires-clause-tests c =
+pub keep-requires : goal.keep-requires
+keep-requires c =
     let at = c.requires in
     let line = c.in-Ok-Some.line in
     let bytes = take c.bytes-count.result.0 c.args.more.now in
     let is : c.in-Ok-Some.field-0 ≡ Some c.in-Ok-Some.line = rw c.in-Ok-Some.is at c.in-Ok-Some.field-0-is in
     let answer = rw (c.in-Ok-Some.is, is) at c.bytes-count.ensures.answer in
     let ranged = rw (c.in-Ok-Some.is, is) at c.bytes-count.ensures.ranges in
-    line-tests at.limited c.args.file.now c.args.quota.now at.text (at.text ++ bytes) line at.reads.gathers (answer at.text at.short at.reads.stands).1 ranged
+    record { tests = line-tests at.limited c.args.file.now c.args.quota.now at.text (at.text ++ bytes) line at.reads.gathers (answer at.text at.short at.reads.stands).1 ranged }
 
 pub returns-in-Ok-clause-ok : goal.returns-in-Ok-clause-ok
 returns-in-Ok-clause-ok c limited text short was =

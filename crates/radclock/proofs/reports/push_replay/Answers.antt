@@ -6,7 +6,7 @@ use Rattle.rad_io.proofs.Chains.{wrote_nothing, writes_last}
 use Rattle.report_text.specs.Text.{end_text}
 use Rattle.report_text.specs.declared.lines.EndCounts.{EndCounts}
 use Rattle.radclock.specs.Plays.{entries_in, entries_of}
-use Rattle.radclock.specs.Reports.{outcomes, tick_lines, log_lines}
+use Rattle.radclock.specs.Reports.{outcomes, is_taken, refused_in, tick_lines, log_lines}
 use Rattle.radclock.specs.Tellings.{replay_told, told_text}
 use Rattle.rad_io.proofs.Joining.{wrote-on, broke-on, broke-early, writes-on}
 use Rattle.radclock.proofs.reports.push_replay.Goals as goal
@@ -38,8 +38,8 @@ returns g c =
     let tally = c.in_ok-tally.tally in
     let counts = c.in_ok-tally.ensures.counts in
     let ticks = c.args.ticks.now in
-    let q = outcomes c.args.file.now.freq [] c.args.file.now.stamps.items in
-    let told = told_text c.args.head.now (g.T.Telling.says c.args.file.now.freq) q in
+    let q = outcomes c.args.file.now.head.freq [] c.args.file.now.items.items in
+    let told = told_text c.args.head.now (g.T.Telling.says c.args.file.now.head) q in
     let logs = entries_of c.args.logs.now in
     let front = (told ++ tick_lines 0 ticks) ++ log_lines 0 logs in
     let end : ℕ → ℕ → ℕ → EndCounts = λ a r n. record { accepted = a; refused = r; ticks = Some (length ticks); entries = Some n } in
@@ -49,5 +49,5 @@ returns g c =
     let piece = end_text (end tally.accepted tally.refused c.args.entries) in
     let last = writes_last _ _ _ mid mid c.end_line.new.sink [] piece c.end_line.result (sink.appends _ _ _ _ once) (sink.cause _ _ _ _ once) (wrote_nothing _ _ _ _) once in
     let whole = writes-on _ _ _ c.args.sink.now mid c.end_line.new.sink front (piece ∷ []) c.end_line.result three last in
-    let same : piece ≡ end_text (end (count_by (λ o. is_ok o.answer) q) (count_by (λ o. is_err o.answer) q) (entries_in logs)) = ap (λ a. end_text (end a tally.refused c.args.entries)) counts.accepted ∙ ap (λ r. end_text (end (count_by (λ o. is_ok o.answer) q) r c.args.entries)) counts.refused ∙ ap (λ n. end_text (end (count_by (λ o. is_ok o.answer) q) (count_by (λ o. is_err o.answer) q) n)) c.requires.entries in
+    let same : piece ≡ end_text (end (count_by is_taken q) (refused_in q) (entries_in logs)) = ap (λ a. end_text (end a tally.refused c.args.entries)) counts.accepted ∙ ap (λ r. end_text (end (count_by is_taken q) r c.args.entries)) counts.refused ∙ ap (λ n. end_text (end (count_by is_taken q) (refused_in q) n)) c.requires.entries in
     subst (λ e. Writes g.K.Sink.written g.K.Sink.faults g.K.Sink.push_gives c.args.sink.now (front ++ e ∷ []) c.end_line.result c.end_line.new.sink) same whole

@@ -5,7 +5,7 @@ use Rattle.rad_io.specs.Pushes.{Writes}
 use Rattle.rad_io.proofs.Chains.{wrote_nothing, writes_last}
 use Rattle.report_text.specs.Text.{end_text}
 use Rattle.report_text.specs.declared.lines.EndCounts.{EndCounts}
-use Rattle.radclock.specs.Reports.{outcomes}
+use Rattle.radclock.specs.Reports.{outcomes, is_taken, refused_in}
 use Rattle.radclock.specs.Tellings.{report, told_text}
 use Rattle.rad_io.proofs.Joining.{broke-early, writes-on}
 use Rattle.radclock.proofs.reports.push_report.Goals as goal
@@ -23,10 +23,10 @@ returns g c =
     let once = c.end_line.ensures in
     let tally = c.in_ok-tally.tally in
     let counts = c.in_ok-tally.ensures.counts in
-    let q = outcomes c.args.file.now.freq [] c.args.file.now.stamps.items in
-    let told = told_text c.args.head.now (g.T.Telling.says c.args.file.now.freq) q in
+    let q = outcomes c.args.file.now.head.freq [] c.args.file.now.items.items in
+    let told = told_text c.args.head.now (g.T.Telling.says c.args.file.now.head) q in
     let end : ℕ → ℕ → EndCounts = λ a r. record { accepted = a; refused = r; ticks = None; entries = None } in
     let last = writes_last _ _ _ c.push_told.new.sink c.push_told.new.sink c.end_line.new.sink [] (end_text (end tally.accepted tally.refused)) c.end_line.result (sink.appends _ _ _ _ once) (sink.cause _ _ _ _ once) (wrote_nothing _ _ _ _) once in
     let whole = writes-on _ _ _ c.args.sink.now c.push_told.new.sink c.end_line.new.sink told (end_text (end tally.accepted tally.refused) ∷ []) c.end_line.result c.in_ok-tally.ensures.lines last in
-    let same : end_text (end tally.accepted tally.refused) ≡ end_text (end (count_by (λ o. is_ok o.answer) q) (count_by (λ o. is_err o.answer) q)) = ap (λ a. end_text (end a tally.refused)) counts.accepted ∙ ap (λ r. end_text (end (count_by (λ o. is_ok o.answer) q) r)) counts.refused in
+    let same : end_text (end tally.accepted tally.refused) ≡ end_text (end (count_by is_taken q) (refused_in q)) = ap (λ a. end_text (end a tally.refused)) counts.accepted ∙ ap (λ r. end_text (end (count_by is_taken q) r)) counts.refused in
     subst (λ e. Writes g.K.Sink.written g.K.Sink.faults g.K.Sink.push_gives c.args.sink.now (told ++ e ∷ []) c.end_line.result c.end_line.new.sink) same whole

@@ -1,11 +1,12 @@
 use Rattle.std.proofs.Common.{◌≡◌, ℕ, List, [], ◌∷◌, Option, None, Some, sym, ◌∙◌, ap, subst}
 use Rattle.clock_words.specs.declared.commands.Command.{Command}
-use Rattle.radclock.specs.Inputs.{takes_few, stop_of_file, freq_of_file, stamps_of_file}
+use Rattle.radclock.specs.Inputs.{takes_few, stop_of_file, head_of_file, items_of_file}
 use Rattle.report_text.specs.Text.{fault_text}
 use Rattle.radclock.specs.Statuses.{fault_of, status_of}
 use Rattle.radclock.specs.Endings.{EndsWith, Finishes}
 use Rattle.radclock.specs.Runs.{ByLines, Ran, ReadsTo}
-use Rattle.radclock.specs.declared.inputs.StampLine.{StampLine}
+use Rattle.stamp_text.specs.declared.lines.Head.{Head}
+use Rattle.radclock.specs.declared.inputs.ItemLine.{ItemLine}
 use Rattle.radclock.proofs.Running.{run-finished, run-made, run-no-line, run-short, run-stopped, run-summarised}
 use Rattle.radclock.proofs.run.run.Goals as goal
 
@@ -40,8 +41,8 @@ returns-in-Ok g c =
     let file = c.in-Ok.file in
     let ok = c.in-Ok.ensures.ok in
     let few : c.takes_few.result ≡ takes_few asked = c.takes_few.ensures in
-    let finishes : ℕ → List StampLine → Type 0 = λ freq stamps. Finishes g.K.Sink.written g.K.Sink.faults g.K.Sink.push_gives asked freq stamps c.args.sink.now c.args.desk.now c.finish.result c.finish.new.sink c.finish.new.desk in
-    let told : finishes (freq_of_file ok.0) (stamps_of_file ok.0) = subst (finishes (freq_of_file ok.0)) ok.2.stamps (subst (λ freq. finishes freq file.stamps.items) ok.2.freq c.finish.ensures) in
+    let finishes : Head → List ItemLine → Type 0 = λ head items. Finishes g.K.Sink.written g.K.Sink.faults g.K.Sink.push_gives asked head items c.args.sink.now c.args.desk.now c.finish.result c.finish.new.sink c.finish.new.desk in
+    let told : finishes (head_of_file ok.0) (items_of_file ok.0) = subst (finishes (head_of_file ok.0)) ok.2.items (subst (λ head. finishes head file.items.items) ok.2.head c.finish.ensures) in
     let reads = subst (λ few. ReadsTo g.S.Source.pull_gives few c.args.source.now ok.0 None c.read_file.new.source) few ok.1 in
     let none = subst (λ few. stop_of_file few ok.0 ≡ None) few ok.2.sound in
     subst (λ (asked : Option Command). Ran g.S.Source.pull_gives (ByLines g.K.Sink.push_gives) asked c.args.source.now c.read_file.new.source c.args.sink.now c.finish.new.sink c.args.desk.now c.finish.new.desk c.finish.result) (sym is)
