@@ -2,7 +2,7 @@
 ghost use Rattle.std.specs.Prelude.{◌≡◌, ◌<◌, ◌||◌, true, [], ◌∷◌, IfSome, MatchOption};
 ghost use Rattle.stamp_text.specs.Digits.{number_in};
 ghost use Rattle.stamp_text.specs.Times.{time_in};
-ghost use Rattle.stamp_text.specs.Pieces.{BeginsWithLine, BeginsWithStamp, IsNumberPiece, IsTimePiece};
+ghost use Rattle.stamp_text.specs.Pieces.{BeginsWithLine, BeginsWithNumber, BeginsWithStamp, IsNumberPiece, IsTimePiece};
 ghost use Rattle.stamp_text.specs.Stamps.{is_empty, pieces_of, stamp_of_pieces, stamp_in, stamp_within, stamp_of_numbers};
 
 use crate::cuts::cut_at;
@@ -142,6 +142,31 @@ fn number_piece(text: &[u8]) -> Option<(u64, &[u8])>
     }
 }
 
+// The number that a text begins with, and how many digits it has. Strata and leaps mostly have one digit,
+// with `end` behind it.
+#[inline(always)]
+fn small_ahead(text: &[u8], end: u8) -> Option<(u64, usize)>
+    ensures { IfSome result (λ p. BeginsWithNumber text.now p.0 p.1) }
+{
+    if text.len() > 1 && text[1] == end && text[0].is_ascii_digit() {
+        return Some((u64::from(text[0] - b'0'), 1));
+    }
+    number_ahead(text)
+}
+
+// Such a number, and what stands behind its space.
+#[inline(always)]
+fn small_piece(text: &[u8]) -> Option<(u64, &[u8])>
+    ensures { IfSome result (λ p. IsNumberPiece text.now p.0 p.1.now) }
+{
+    let (value, count) = small_ahead(text, b' ')?;
+    if count < text.len() && text[count] == b' ' {
+        Some((value, &text[count + 1..]))
+    } else {
+        None
+    }
+}
+
 // The time that a text begins with, where it has a point, and what stands behind its space.
 #[inline(always)]
 fn time_piece(text: &[u8]) -> Option<(Written, &[u8])>
@@ -184,8 +209,8 @@ pub fn second_ahead(text: &[u8]) -> Option<(Result<Stamp, Why>, usize)>
     let (tb, rest) = time_piece(rest)?;
     let (te, rest) = time_piece(rest)?;
     let (tf, rest) = number_piece(rest)?;
-    let (stratum, rest) = number_piece(rest)?;
-    let (leap, count) = number_ahead(rest)?;
+    let (stratum, rest) = small_piece(rest)?;
+    let (leap, count) = small_ahead(rest, b'\n')?;
     let before = text.len() - rest.len();
     let answer = stamp_within(ta, tb, te, tf, stratum, leap);
     Some((answer, before + count))
