@@ -96,7 +96,8 @@ fn open_fast(words: &Words, pass: &mut PassSeat) -> u64
 fn open_full(words: &Words, pass: &mut PassSeat) -> u64
     requires words { words.now.shared.table_id ≡ pass.old.table }
     requires first { pass.old.view.entries ≡ [] }
-    ensures { result % 2 ≡ 1 → pass.new.view.entries ≡ noted (Again Abs result result) result ∷ [] }
+    ensures table { pass.new.table ≡ pass.old.table }
+    ensures over { result % 2 ≡ 1 → pass.new.view.entries ≡ noted (Again Abs result result) result ∷ [] }
 {
     pass.open_call(
         words,
