@@ -8,6 +8,7 @@ mod meetings;
 mod ran;
 mod replays;
 mod rows;
+mod second;
 
 use crate::tests::judge::first_wrong;
 use crate::tests::large::{NUMBERED, REPEATED};
