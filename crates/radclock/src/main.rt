@@ -2,35 +2,8 @@
 //! words ask for to standard output.
 #![tactic(auto)]
 
-mod bases;
-mod estimates;
-mod faults;
-mod gather;
-mod inputs;
-mod journal;
-mod laws;
-mod listings;
-mod make;
-mod output;
-mod plays;
-mod program;
-mod ran;
-mod reading;
-mod replay;
-mod reports;
-mod run;
-mod stamps;
-mod status;
-#[cfg(test)]
-mod tests;
-mod ticks;
-
-pub use laws::{blocks_tell, lines_tell};
-pub use output::run_in_blocks;
-pub use program::program;
 use rad_io::{StdSink, StdSource};
-pub use run::run;
-pub use status::Status;
+use radclock_run::program::program;
 use std::io::Input;
 use std::process::ExitCode;
 use std::{env, io};

@@ -1,0 +1,10 @@
+use Rattle.std.proofs.Common.{◌++◌, ap, sym, ◌∙◌}
+use Rattle.std.specs.Option.{option_to_list}
+use Rattle.ff_estimator.specs.Events.{full_of_event}
+use Rattle.ff_estimator.specs.declared.fulls.Full.{Full}
+use Rattle.radclock_run.proofs.Making.{fulls-more}
+use Rattle.radclock_run.proofs.ran.fulls_of.Goals as goal
+
+pub loop-event-preserved : goal.loop-event-preserved
+loop-event-preserved c =
+    record { told = c.in_ok-push_full.ensures ∙ fulls-more _ c.loop-event.fulls.items c.loop-event.event-index _ c.loop-event-test.true c.loop-event.invariant.told }

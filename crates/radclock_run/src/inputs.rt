@@ -1,0 +1,74 @@
+// What an input gives.
+ghost use Rattle.std.specs.Prelude.{◌≡◌, ◌≤◌};
+ghost use Rattle.stamp_text.specs.Accepted.{IsItemInRange};
+ghost use Rattle.stamp_text.specs.Format.{least_freq, greatest_freq};
+ghost use Rattle.stamp_text.specs.Past.{seen_after, test_of};
+ghost use Rattle.radclock_run.specs.Inputs.{takes_few};
+
+use clock_words::Report;
+use report_text::Limit;
+use stamp_text::{Head, Item, LineFault, Past, Refused};
+
+/// The most bytes of an input.
+pub const MOST_BYTES: u64 = 16_777_216;
+
+/// The most well-formed item lines of an input.
+pub const MOST_ITEMS: usize = 65_536;
+
+/// The most accepted stamps and sets of an input together, where these are limited.
+pub const MOST_ACCEPTED: usize = 16_384;
+
+/// A well-formed item and the number of its line, from 1.
+#[derive(Clone, Copy, Debug, PartialEq, Eq)]
+pub struct ItemLine {
+    pub line: u64,
+    pub item: Item,
+}
+
+/// What the lines of an input have given.
+#[derive(Drop)]
+pub struct StampFile {
+    /// The version of the format, and the counter's nominal frequency in Hz; both are 0 before the head.
+    pub head: Head,
+    /// The items in the order of their lines.
+    pub items: Vec<ItemLine>,
+}
+
+/// Why an input is not read to its end, or not taken.
+#[derive(Clone, Copy, Debug, PartialEq, Eq)]
+pub enum Stop {
+    /// Memory was wanting.
+    Memory,
+    /// A pull failed after so many bytes were taken.
+    Read { taken: u64 },
+    /// The input is not in the grammar.
+    Fault(LineFault),
+    /// The input passes a limit.
+    Large(Limit),
+}
+
+/// Whether a report takes only so many accepted stamps and sets, 16,384.
+pub fn takes_few(report: Report) -> bool
+    ensures { result ≡ takes_few report }
+{
+    match report {
+        Report::Stamps | Report::Rtt | Report::Estimate => false,
+        Report::Ticks { .. } | Report::Replay { .. } => true,
+    }
+}
+
+/// Tests an item of any kind behind the accepted ones. Where none of the tests of its kind holds it is
+/// accepted, and else nothing changes.
+pub fn accept_item(past: &mut Past, item: &Item, freq: u64) -> Result<(), Refused>
+    requires low { least_freq ≤ freq }
+    requires high { freq ≤ greatest_freq }
+    requires range { IsItemInRange item.now }
+    ensures test { result ≡ test_of freq past.old item.now }
+    ensures after { past.new ≡ seen_after past.old item.now result }
+{
+    match item {
+        Item::Stamp(stamp) => past.stamp(stamp, freq),
+        Item::Set { count, at: _ } => past.set(*count),
+        Item::Leap { count, leap } => past.leap(*count, *leap),
+    }
+}

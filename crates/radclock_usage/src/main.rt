@@ -1,0 +1,16 @@
+//! The same program, of which the stored run is refused: its fourth word is one too many, so it ends with
+//! another status than 0. A `main` that drops a word or the status is seen by it.
+#![tactic(auto)]
+
+use rad_io::{StdSink, StdSource};
+use radclock_run::program::program;
+use std::io::Input;
+use std::process::ExitCode;
+use std::{env, io};
+
+fn main(rt: HostRuntime) -> ExitCode {
+    let mut source = StdSource::new(rt.reader());
+    let sink = StdSink::new(io::writer(&rt));
+    let (code, _) = program(&rt, rt.alloc(), env::args(&rt), &mut source, sink);
+    code
+}
