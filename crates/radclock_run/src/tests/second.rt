@@ -1,7 +1,202 @@
-// Files of version 2: which items are refused, their limits, and each pull and push that fails.
-use crate::tests::rows::{SECOND_HEAD, SETS};
+// Files of version 2: what is told of them, which items are refused, their limits, and each pull and push that fails.
+use crate::tests::rows::{HEAD, READING};
 use crate::tests::{OUTSIDE, Outside, ends, ends_large, played};
 use std::test::Fail;
+
+const SECOND_HEAD: &str = "radclock-stamps 2\nfreq 1000000000\n";
+
+/// A file of version 2: a leap second that is announced and taken, and a set.
+const SETS: &str = "radclock-stamps 2
+freq 1000000000
+1000000000 1700000000 1700000000 1000100000 1 1
+leap 20000000000 1
+17000000000 1700000016 1700000016 17000100000 1 0
+set 18000000000 1800000000
+";
+
+const SETS_REPORT: &str = "report stamps freq 1000000000 version 2
+stamp 0 1000000000 1700000000+0 1700000000+0 1000100000 100000 1 1
+leap 20000000000 1
+stamp 1 17000000000 1700000016+0 1700000016+0 17000100000 100000 1 0
+set 18000000000 1800000000+0
+end accepted 2 refused 0
+";
+
+const SETS_BASES: &str = "report rtt freq 1000000000 version 2
+base 0 100000 100000 0 0
+leap 20000000000 1
+base 1 100000 100000 0 0
+set 18000000000 1800000000+0
+end accepted 2 refused 0
+";
+
+const SETS_ESTIMATES: &str = "report estimate freq 1000000000 version 2
+estimate 0 1000100000 1700000000+922337203600000 18446744072 50050 499999999 W 923259540800001 18437520700 18455967444 --- 0 0 0
+leap 20000000000 1
+estimate 1 17000100000 1700000016+922331527237072 18446744073 100002 6250101 W 1844700733050001 18446628782 18446859367 --- 20000000000 0 1
+set 18000000000 1800000000+0
+end accepted 2 refused 0
+";
+
+// The set resets the clock behind the last estimate, and nothing is claimed of its time.
+const SETS_TICKS: &str = "report ticks freq 1000000000 ticks 0 version 2
+tick 0 cold 0 0+0 0+0 0 0+0 U 0+0 0 0 0 0 U 0 0 0
+tick 1 reset 0 0+0 0+0 18446744072 0+0 U 0+0 0 18446744072 0 0 U 0 0 0
+tick 2 jump 1000100000 1700000000+922337203600000 1700000000+922337203600000 18446744072 1699999998+18445821738215503232 W 1700000000+922337203600000 1000100000 18446744072 50050 499999999 W 0 0 0
+tick 3 take 17000100000 1700000016+922331527237072 1700000016+922309850774144 18446744074 1699999998+18445821738215503232 W 1700000016+922331527237072 17000100000 18446744073 100002 6250101 W 20000000000 0 1
+tick 4 reset 18000000000 1800000000+0 1800000000+0 18446744072 1800000000+0 U 1800000000+0 18000000000 18446744072 0 0 U 0 0 0
+end accepted 2 refused 0 ticks 5
+";
+
+const UNANNOUNCED: &str = "report stamps freq 1000000000 version 2
+stamp 0 1000000000 1700000000+0 1700000000+0 1000100000 100000 1 1
+refused 4 leap-unannounced
+end accepted 1 refused 1
+";
+
+/// The words, two parts of an input, the exit status and what is written.
+static ROWS: [(&str, &str, &str, u8, &str); 22] = [
+    ("stamps", SETS, "", 0, SETS_REPORT),
+    ("rtt", SETS, "", 0, SETS_BASES),
+    ("estimate", SETS, "", 0, SETS_ESTIMATES),
+    ("ticks --ticks 0", SETS, "", 0, SETS_TICKS),
+    (
+        "stamps",
+        SECOND_HEAD,
+        "1000000000 1700000000 1700000000 1000100000 1 1\nleap 20000000000 -1",
+        0,
+        UNANNOUNCED,
+    ),
+    (
+        "stamps",
+        SECOND_HEAD,
+        "set 5\n",
+        1,
+        "fault input 3 columns\n",
+    ),
+    (
+        "stamps",
+        SECOND_HEAD,
+        "set 5 5 5\n",
+        1,
+        "fault input 3 columns\n",
+    ),
+    (
+        "stamps",
+        SECOND_HEAD,
+        "leap 5\n",
+        1,
+        "fault input 3 columns\n",
+    ),
+    (
+        "stamps",
+        SECOND_HEAD,
+        "1000000000 1700000000 1700000000 1000100000\n",
+        1,
+        "fault input 3 columns\n",
+    ),
+    (
+        "stamps",
+        SECOND_HEAD,
+        "set  5\n",
+        1,
+        "fault input 3 columns\n",
+    ),
+    (
+        "stamps",
+        SECOND_HEAD,
+        "set x 5\n",
+        1,
+        "fault input 3 digits\n",
+    ),
+    (
+        "stamps",
+        SECOND_HEAD,
+        "set 5 .5\n",
+        1,
+        "fault input 3 digits\n",
+    ),
+    (
+        "stamps",
+        SECOND_HEAD,
+        "leap 5 2\n",
+        1,
+        "fault input 3 digits\n",
+    ),
+    (
+        "stamps",
+        SECOND_HEAD,
+        "leap 5 +1\n",
+        1,
+        "fault input 3 digits\n",
+    ),
+    (
+        "stamps",
+        SECOND_HEAD,
+        "1 5 5 9 x 0\n",
+        1,
+        "fault input 3 digits\n",
+    ),
+    (
+        "stamps",
+        SECOND_HEAD,
+        "Set 5 5\n",
+        1,
+        "fault input 3 columns\n",
+    ),
+    (
+        "stamps",
+        SECOND_HEAD,
+        "set 4611686018427387904 5\n",
+        1,
+        "fault input 3 range\n",
+    ),
+    (
+        "stamps",
+        SECOND_HEAD,
+        "set 5 4294967296\n",
+        1,
+        "fault input 3 range\n",
+    ),
+    (
+        "stamps",
+        SECOND_HEAD,
+        "leap 4611686018427387904 1\n",
+        1,
+        "fault input 3 range\n",
+    ),
+    (
+        "stamps",
+        SECOND_HEAD,
+        "1 5 5 9 256 0\n",
+        1,
+        "fault input 3 range\n",
+    ),
+    (
+        "stamps",
+        SECOND_HEAD,
+        "1 5 5 9 1 4\n",
+        1,
+        "fault input 3 range\n",
+    ),
+    ("stamps", HEAD, "set 5 5\n", 1, "fault input 3 columns\n"),
+];
+
+#[test]
+fn files_of_version_2_end_as_their_rows_say(rt: HostRuntime) -> Result<(), Fail> {
+    for (words, start, rest, code, text) in &ROWS {
+        let input = format!(in rt.alloc(); "{start}{rest}")?;
+        ends(&rt, rt.alloc(), words, &input, OUTSIDE, *code, text)?;
+        let bytes = Outside { step: 1, ..OUTSIDE };
+        ends(&rt, rt.alloc(), words, &input, bytes, *code, text)?;
+        if *code == 1 {
+            for words in &READING {
+                ends(&rt, rt.alloc(), words, &input, OUTSIDE, 1, text)?;
+            }
+        }
+    }
+    Ok(())
+}
 
 /// A seventh line of the file, and why its item is refused.
 static REFUSED: [(&str, &str); 9] = [
