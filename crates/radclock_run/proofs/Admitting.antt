@@ -1,8 +1,8 @@
 -- While accepted stamps and sets are counted.
-use Rattle.std.proofs.Common.{◌≡◌, ℕ, ◌+◌, ◌<◌, true, List, [], ◌∷◌, ◌++◌, Result, Ok, Err, length, sym, ap, ◌∙◌, refl, subst, arith, append-nil}
+use Rattle.std.proofs.Common.{◌≡◌, ℕ, ◌+◌, ◌<◌, true, List, [], ◌∷◌, ◌++◌, Result, Ok, Err, length, sym, ap, ◌∙◌, subst, arith, append-nil}
 use Rattle.std.proofs.lemmas.List.{length_push}
 use Rattle.stamp_text.specs.Accepted.{accepted_with}
-use Rattle.stamp_text.specs.Past.{accept_item, counts_of, seen_of, seen_with, test_of}
+use Rattle.stamp_text.specs.Past.{accept_item, counts_of, seen_with, test_of}
 use Rattle.stamp_text.specs.declared.accepts.Refused.{Refused}
 use Rattle.stamp_text.specs.declared.lines.Item.{Item}
 use Rattle.stamp_text.specs.declared.lines.Item.TheVariants as item

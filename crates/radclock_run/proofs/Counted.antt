@@ -1,7 +1,6 @@
 -- How many stamps of a file are accepted, and how many items are refused.
-use Rattle.std.proofs.Common.{◌≡◌, ℕ, ◌+◌, ◌&&◌, Bool, List, [], ◌∷◌, ◌++◌, length, Option, None, Some, Result, Ok, Err, is_ok, is_err, cond, refl, ap, ap₂, ◌∙◌, arith, append-nil}
+use Rattle.std.proofs.Common.{◌≡◌, ℕ, ◌+◌, ◌&&◌, Bool, List, [], ◌∷◌, length, Option, None, Result, Ok, Err, is_ok, cond, refl, ap, ap₂, ◌∙◌, arith, append-nil}
 use Rattle.std.specs.List.{count_by}
-use Rattle.std.specs.Option.{option_to_list}
 use Rattle.std.proofs.lemmas.List.{length_push, length-map}
 use Rattle.std.proofs.lemmas.List.Sums.{sum_by-cons}
 use Rattle.stamp_text.specs.Accepted.{accepted_with}
@@ -11,11 +10,9 @@ use Rattle.stamp_text.specs.declared.lines.Item.{Item}
 use Rattle.stamp_text.specs.declared.lines.Item.TheVariants as item
 use Rattle.stamp_text.proofs.PastLaws.{stamps-push}
 use Rattle.ff_estimator.specs.Events.{events_of, fulls_of, without_leaps}
-use Rattle.ff_estimator.specs.Folds.{fold_of}
 use Rattle.ff_estimator.specs.declared.fulls.Event.{Event}
 use Rattle.ff_estimator.specs.declared.fulls.Event.TheVariants as event
 use Rattle.radclock_run.specs.Gathered.{is_estimate}
-use Rattle.ff_estimator.specs.declared.fulls.Full.{Full}
 use Rattle.ff_estimator.proofs.Events.{fold-told}
 use Rattle.ff_estimator.proofs.Folds.{length-fold_of}
 use Rattle.radclock_run.specs.declared.inputs.ItemLine.{ItemLine}

@@ -14,7 +14,6 @@ use Rattle.stamp_text.specs.declared.lines.Line.{Line}
 use Rattle.stamp_text.specs.declared.lines.Line.TheVariants as gives
 use Rattle.stamp_text.specs.declared.lines.Why.{Why}
 use Rattle.stamp_text.specs.declared.lines.Why.TheVariants as why
-use Rattle.radclock_run.specs.declared.inputs.ItemLine.{ItemLine}
 use Rattle.radclock_run.specs.Inputs.{items_in, no_head, head_after}
 
 abbrev pub IsItemLine : Line → Type 0

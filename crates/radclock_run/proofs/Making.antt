@@ -6,7 +6,6 @@ use Rattle.stamp_text.specs.Accepted.{accept_of, accepted_with, first_that_holds
 use Rattle.stamp_text.specs.Past.{Seen, nothing_seen, seen_with, seen_of, is_not_behind, is_unsynchronised, accept_item, counts_of}
 use Rattle.stamp_text.specs.declared.accepts.Refused.TheVariants as refused
 use Rattle.stamp_text.proofs.PastLaws.{seen-stamp, stamp-passed}
-use Rattle.stamp_text.specs.declared.lines.Item.{Item}
 use Rattle.stamp_text.specs.declared.lines.Item.TheVariants as item
 use Rattle.stamp_text.specs.declared.lines.Stamp.{Stamp}
 use Rattle.stamp_maker.specs.MadeStamps.{made, stamp_of_made}

@@ -1,7 +1,7 @@
 -- What an accepted stamp is, where it is told.
-use Rattle.std.proofs.Common.{◌≡◌, ℕ, ◌≤◌, ◌+◌, List, [], ◌∷◌, ◌++◌, Bool, cond, ◌&&◌, is_ok, Option, Result, Ok, Err, OnOk, length, sym, ap, ◌∙◌, subst, arith}
+use Rattle.std.proofs.Common.{◌≡◌, ℕ, ◌≤◌, ◌+◌, List, [], ◌∷◌, ◌++◌, cond, ◌&&◌, is_ok, Result, Ok, Err, OnOk, sym, ap, ◌∙◌, subst, arith}
 use Rattle.stamp_text.specs.Accepted.{accept_of, accepted_with, last_of}
-use Rattle.stamp_text.specs.Past.{Seen, accept_item, seen_of, seen_with, stamps_of, test_of}
+use Rattle.stamp_text.specs.Past.{accept_item, seen_of, seen_with, stamps_of, test_of}
 use Rattle.stamp_text.specs.declared.accepts.Refused.{Refused}
 use Rattle.stamp_text.specs.declared.lines.Head.{Head}
 use Rattle.stamp_text.specs.declared.lines.Item.{Item}

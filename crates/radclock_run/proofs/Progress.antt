@@ -1,5 +1,5 @@
 -- While a report is written.
-use Rattle.std.proofs.Common.{◌≡◌, ℕ, ◌+◌, ◌≤◌, ◌<◌, Bool, ◌&&◌, cond, List, [], ◌∷◌, ◌++◌, Option, Result, Ok, Err, length, drop, refl, sym, ap, ◌∙◌, arith, append_assoc, append-nil, is_ok, is_err, get_or}
+use Rattle.std.proofs.Common.{◌≡◌, ℕ, ◌+◌, ◌≤◌, ◌<◌, Bool, ◌&&◌, cond, List, [], ◌∷◌, ◌++◌, Option, Result, Ok, Err, length, drop, sym, ap, ◌∙◌, arith, append_assoc, append-nil, is_ok, is_err, get_or}
 use Rattle.std.specs.List.{count_by}
 use Rattle.std.proofs.lemmas.List.{at_drop_more, at_drop_all}
 use Rattle.std.proofs.lemmas.List.Sums.{sum_by-cons}

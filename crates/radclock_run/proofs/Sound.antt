@@ -1,5 +1,5 @@
 -- What a text is that nothing stops.
-use Rattle.std.proofs.Common.{◌≡◌, ℕ, ◌≤◌, Bool, true, false, List, [], Option, None, Some, length, refl, sym, ◌∙◌}
+use Rattle.std.proofs.Common.{◌≡◌, ℕ, ◌≤◌, Bool, true, false, List, Option, None, Some, length, refl, sym, ◌∙◌}
 use Rattle.std.specs.Option.{option_map}
 use Rattle.stamp_text.specs.Grammar.{given_of_file, fault_of_file}
 use Rattle.stamp_text.specs.declared.lines.LineFault.{LineFault}

@@ -1,5 +1,5 @@
 -- A report by items, whose lines are told one by one, is that by the lists of all that is told.
-use Rattle.std.proofs.Common.{◌≡◌, ℕ, ◌+◌, ◌<◌, List, [], ◌∷◌, ◌++◌, None, Some, Result, Ok, Err, OnOk, is_ok, length, slice_get, map, refl, sym, ap, ap₂, ◌∙◌, arith, append_assoc, append-nil, length-append, if◌then◌else◌}
+use Rattle.std.proofs.Common.{◌≡◌, ℕ, ◌<◌, List, [], ◌∷◌, ◌++◌, None, Some, Result, Ok, Err, length, slice_get, map, refl, sym, ap, ap₂, ◌∙◌, arith, append_assoc, append-nil, length-append}
 use Rattle.std.specs.List.{range_with_len}
 use Rattle.std.specs.Option.{option_map_or, option_to_list}
 use Rattle.std.proofs.Math.Seq.{get_or-append_seam}
@@ -14,7 +14,6 @@ use Rattle.stamp_text.specs.declared.lines.Head.{Head}
 use Rattle.stamp_text.specs.declared.lines.Item.{Item}
 use Rattle.stamp_text.specs.declared.lines.Item.TheVariants as item
 use Rattle.stamp_text.specs.declared.lines.Stamp.{Stamp}
-use Rattle.stamp_text.proofs.PastLaws.{stamps-push}
 use Rattle.rtt_window.specs.Bases.{base_at}
 use Rattle.rtt_window.proofs.Prefixes.{base_at-append}
 use Rattle.ff_estimator.specs.Events.{event_behind, events_of, full_behind, full_of_event, fulls_of}
@@ -25,13 +24,13 @@ use Rattle.ff_estimator.proofs.Events.{events-push}
 use Rattle.ff_hands.specs.declared.hands.Hands.{Hands}
 use Rattle.clock_lines.specs.declared.readings.Entry.{Entry}
 use Rattle.replay_run.specs.declared.plan.Options.{Options}
-use Rattle.report_text.specs.Text.{head_text, end_text, stamp_text, base_text, estimate_text, set_text, leap_text, refused_text}
+use Rattle.report_text.specs.Text.{head_text, end_text, stamp_text, base_text, estimate_text}
 use Rattle.report_text.specs.declared.lines.ReportHead.{ReportHead}
 use Rattle.report_text.specs.declared.lines.ReportHead.TheVariants as head
 use Rattle.radclock_run.specs.declared.inputs.ItemLine.{ItemLine}
 use Rattle.radclock_run.specs.Inputs.{accepted_among}
 use Rattle.radclock_run.proofs.Counted.{with-stamps, many-estimates}
-use Rattle.radclock_run.specs.Reports.{Outcome, outcomes, end_counts, is_stamp, is_taken, item_text, line_by, lines_of, of_nth, stamp_report, stamps_report, rtt_report, estimate_report, bases_of, tick_lines, log_lines, replay_head, replay_counts, replay_report}
+use Rattle.radclock_run.specs.Reports.{outcomes, end_counts, item_text, line_by, lines_of, of_nth, stamp_report, stamps_report, rtt_report, estimate_report, bases_of, tick_lines, log_lines, replay_head, replay_counts, replay_report}
 use Rattle.radclock_run.specs.Tellings.{told_item, told_of, told, report, replay_told, stamps_says, rtt_says, estimate_says}
 
 -- one more item, accepted or not, and further ones

@@ -8,7 +8,6 @@ use Rattle.ff_grain.specs.declared.bintime.Bintime.{Bintime}
 use Rattle.stamp_text.specs.Accepted.{IsItemInRange}
 use Rattle.stamp_text.specs.Past.{AreAcceptedItems, stamps_of}
 use Rattle.stamp_text.specs.declared.lines.Item.{Item}
-use Rattle.stamp_text.specs.declared.lines.Item.TheVariants as item
 use Rattle.stamp_text.specs.Grammar.{given_of_file, fault_of_file}
 use Rattle.stamp_text.proofs.PastLaws.{items-none, items-all}
 use Rattle.stamp_text.proofs.GivenLaws.{head-first}

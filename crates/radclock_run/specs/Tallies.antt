@@ -1,5 +1,5 @@
 -- What a tally counts while a report is written.
-use Rattle.std.specs.Prelude.{◌≡◌, ℕ, ◌+◌, ◌&&◌, List, length, count_by, is_ok, is_err, Result, if◌then◌else◌}
+use Rattle.std.specs.Prelude.{◌≡◌, ◌+◌, ◌&&◌, List, length, count_by, is_ok, is_err, Result, if◌then◌else◌}
 use Rattle.stamp_text.specs.Past.{seen_of, stamps_of}
 use Rattle.stamp_text.specs.declared.accepts.Refused.{Refused}
 use Rattle.stamp_text.specs.declared.lines.Head.{Head}

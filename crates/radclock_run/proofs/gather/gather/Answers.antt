@@ -1,4 +1,4 @@
-use Rattle.std.proofs.Common.{◌≡◌, [], ◌∷◌, ◌++◌, true, false, is_ok, sym, ap, ◌∙◌, subst}
+use Rattle.std.proofs.Common.{[], ◌∷◌, ◌++◌, true, false, is_ok, sym, ap, ◌∙◌, subst}
 use Rattle.stamp_text.specs.Accepted.{IsInRange, IsItemInRange, IsSetInRange, IsLeapInRange, accepted_with}
 use Rattle.stamp_text.specs.Past.{accept_item}
 use Rattle.stamp_text.specs.declared.lines.Item.TheVariants as item

@@ -1,6 +1,5 @@
-use Rattle.std.proofs.Common.{◌+◌, ◌≤◌, length, not, cond, ap, sym, ◌∙◌, subst, refl, arith}
-use Rattle.radclock_run.specs.Reports.{outcomes, refused_in}
-use Rattle.radclock_run.proofs.Fulls.{gathers-none, gathers-next, gathers-done, at-most-one}
+use Rattle.std.proofs.Common.{◌+◌, ap, arith}
+use Rattle.radclock_run.proofs.Fulls.{gathers-none, gathers-next, at-most-one}
 use Rattle.radclock_run.proofs.gather.said_by.Goals as goal
 
 pub loop-x-init : goal.loop-x-init

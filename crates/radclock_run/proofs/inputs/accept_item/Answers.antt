@@ -1,4 +1,4 @@
-use Rattle.std.proofs.Common.{◌≡◌, sym, ap, ◌∙◌, subst}
+use Rattle.std.proofs.Common.{sym, ap, ◌∙◌, subst}
 use Rattle.stamp_text.specs.Accepted.{IsItemInRange, IsLeapInRange}
 use Rattle.stamp_text.specs.Past.{test_of}
 use Rattle.stamp_text.specs.declared.lines.Item.TheVariants as item

@@ -1,7 +1,4 @@
-use Rattle.std.proofs.Common.{◌++◌, ap, sym, ◌∙◌}
-use Rattle.std.specs.Option.{option_to_list}
-use Rattle.ff_estimator.specs.Events.{full_of_event}
-use Rattle.ff_estimator.specs.declared.fulls.Full.{Full}
+use Rattle.std.proofs.Common.{◌∙◌}
 use Rattle.radclock_run.proofs.Making.{fulls-more}
 use Rattle.radclock_run.proofs.ran.fulls_of.Goals as goal
 

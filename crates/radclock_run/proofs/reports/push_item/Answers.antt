@@ -1,4 +1,4 @@
-use Rattle.std.proofs.Common.{refl, arith}
+use Rattle.std.proofs.Common.{refl}
 use Rattle.radclock_run.proofs.Next.{stands-next, more-stamps}
 use Rattle.radclock_run.proofs.reports.push_item.Goals as goal
 

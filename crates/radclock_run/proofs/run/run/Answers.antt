@@ -1,4 +1,4 @@
-use Rattle.std.proofs.Common.{◌≡◌, ℕ, List, [], ◌∷◌, Option, None, Some, sym, ◌∙◌, ap, subst}
+use Rattle.std.proofs.Common.{◌≡◌, List, [], ◌∷◌, Option, None, Some, sym, ◌∙◌, ap, subst}
 use Rattle.clock_words.specs.declared.commands.Command.{Command}
 use Rattle.radclock_run.specs.Inputs.{takes_few, stop_of_file, head_of_file, items_of_file}
 use Rattle.report_text.specs.Text.{fault_text}
