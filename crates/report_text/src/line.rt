@@ -3,9 +3,8 @@ ghost use Rattle.std.specs.Prelude.{◌≡◌, ◌+◌, ◌-◌, ◌<◌, ◌≤
 ghost use Rattle.std.specs.Fmt.{signed_decimal};
 ghost use Rattle.report_text.specs.Text.{time_text, mark_text, count_text, flag_text, letter_text, nanos_text, written_text};
 
-use digit_words::write_digits;
 use ff_grain::Bintime;
-use itoa::Buffer;
+use itoa::{Buffer, write_digits};
 use std::marker::Model;
 
 /// The most bytes of a line with its line end.
@@ -74,7 +73,7 @@ impl LineText {
     }
 
     /// Puts a number in digits in front.
-    #[tactic(auto, using(digit_words::proofs::LastDigits::most_digits))]
+    #[tactic(auto, using(crate::proofs::Digits::most_digits))]
     pub fn number(&mut self, n: u64)
         requires { length self.old + 20 ≤ 640 }
         ensures text { self.new ≡ decimal n ++ self.old }

@@ -1,5 +1,5 @@
 use Rattle.std.proofs.Common.{length, decimal, drop, ap, arith, length-append, length-drop}
-use Rattle.digit_words.proofs.LastDigits.{most_digits}
+use Rattle.report_text.proofs.Digits.{most_digits}
 use Rattle.report_text.proofs.line.LineText.number.Goals as goal
 
 pub write_digits-self-inside-requires : goal.write_digits-self-inside-requires
