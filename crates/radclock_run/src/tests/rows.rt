@@ -144,7 +144,7 @@ pub static RUNS: [(&str, &str, &str, u8, &str); 62] = [
     (
         "stamps",
         "",
-        "radclock-stamps 2\n",
+        "radclock-stamps 3\n",
         1,
         "fault input 1 head\n",
     ),
