@@ -1,6 +1,6 @@
 // What a small journal allows, and what it does not.
 ghost use Rattle.std.specs.Prelude.{true, false, [], ◌∷◌};
-ghost use Rattle.ff_hands.specs.Samples.{ticks, warm_ticks};
+ghost use Rattle.ff_hands.specs.Samples.{ticks, warm_ticks, steered_ticks};
 ghost use Rattle.ff_hands.specs.declared.hands.How.TheVariants as how;
 ghost use Rattle.clock_lines.specs.declared.readings.Entry.TheVariants as entry;
 ghost use Rattle.clock_lines.specs.declared.readings.Kind.TheVariants as kind;
@@ -100,7 +100,7 @@ pub fn readings_are_at_their_ticks()
 {}
 
 /// The law that one reading of each kind is legal.
-#[tactic(auto, using(ff_hands::proofs::Samples::at_one, ff_hands::proofs::Samples::at_two, ff_hands::proofs::Samples::at_three, ff_hands::proofs::Samples::jump_at_one, ff_hands::proofs::Samples::jump_at_two), unfolding(clock_lines::specs::Values::value_of, clock_lines::specs::Values::bound_of))]
+#[tactic(auto, using(ff_hands::proofs::Samples::at_one, ff_hands::proofs::Samples::at_two, ff_hands::proofs::Samples::at_three, ff_hands::proofs::Samples::jump_at_one, ff_hands::proofs::Samples::jump_at_two, ff_hands::proofs::Samples::steered_at_four, ff_hands::proofs::Samples::steered_at_five), unfolding(clock_lines::specs::Values::value_of, clock_lines::specs::Values::bound_of))]
 pub fn readings_are_allowed()
     ensures abs { IsEntry ticks (read kind.Abs 2 45 100 154424509500 73787105146) }
     ensures abs_at_its_tick { IsEntry ticks (read kind.Abs 2 40 100 132949673000 73787062196) }
@@ -117,9 +117,11 @@ pub fn readings_are_allowed()
     ensures behind_a_jump { IsEntry warm_ticks (read kind.Mono 2 35 101 64424509500 129127401792) }
     ensures up_before_a_jump { IsEntry warm_ticks (read kind.Uptime 1 30 0 85899345920 0) }
     ensures up_behind_a_jump { IsEntry warm_ticks (read kind.Uptime 2 35 0 107374182420 129127401792) }
+    ensures diff_of_a_steered_clock { IsEntry steered_ticks (read kind.Diff 4 1048576 1 0 0) }
+    ensures abs_of_a_steered_clock { IsEntry steered_ticks (read kind.Abs 4 4718592 108 9223372036854775808 0) }
 {}
 
-/// The law that in a log neither the newest tick nor the counter falls.
+/// The law that in a log neither the newest tick nor the counter falls, also behind an entry that shows neither.
 pub fn logs_never_fall()
     ensures full_ticks { IsLog ticks (read kind.Abs 3 50 100 175899346000 73787148095 ∷ read kind.Abs 2 50 100 175899346000 73787148095 ∷ []) → ⊥ }
     ensures fast_ticks { IsLog ticks (read kind.Fast 3 50 100 175899346000 73787148095 ∷ read kind.Fast 2 40 100 132949673000 73787062196 ∷ []) → ⊥ }
@@ -129,6 +131,8 @@ pub fn logs_never_fall()
     ensures counts_of_kinds { IsLog ticks (read kind.Utc 2 46 62 158719476800 73787113735 ∷ read kind.Uptime 2 45 0 150323855380 73787105146 ∷ []) → ⊥ }
     ensures ahead_behind { IsLog ticks (read kind.Abs 2 46 100 158719476800 73787113735 ∷ entry.Ahead 60 45 ∷ []) → ⊥ }
     ensures behind_ahead { IsLog ticks (entry.Ahead 60 46 ∷ read kind.Mono 2 45 100 150323855380 73787105146 ∷ []) → ⊥ }
+    ensures ticks_behind_an_again { IsLog ticks (read kind.Fast 3 50 100 175899346000 73787148095 ∷ entry.Again kind.Abs 6 8 ∷ read kind.Fast 2 40 100 132949673000 73787062196 ∷ []) → ⊥ }
+    ensures counts_behind_an_again { IsLog ticks (read kind.Abs 2 46 100 158719476800 73787113735 ∷ entry.Again kind.Abs 4 6 ∷ read kind.Abs 2 45 100 154424509500 73787105146 ∷ []) → ⊥ }
 {}
 
 /// The law that a log with an entry of each kind is legal, and one whose past ticks and counts fall.
@@ -195,6 +199,7 @@ pub fn attempts_are_in_turn()
     ensures diff { AnswersNext 1000 true ([]) 4 (read kind.Diff 2 1000 0 4294967300000 8589935) }
     ensures back { AnswersNext 1000 true (read kind.Abs 2 45 100 154424509500 73787105146 ∷ []) 5 (read kind.Back 2 45 100 150323855380 73787105146) }
     ensures back_of_none { AnswersNext 1000 true (read kind.Mono 2 45 100 150323855380 73787105146 ∷ []) 5 (read kind.Back 0 0 0 0 0) }
+    ensures back_behind_others { AnswersNext 1000 true (read kind.Abs 2 45 100 154424509500 73787105146 ∷ read kind.Uptime 2 47 0 158913789980 73787122325 ∷ read kind.Utc 2 48 62 167309411400 73787130915 ∷ []) 5 (read kind.Back 2 45 100 150323855380 73787105146) }
     ensures then_abs { AnswersNext 1000 true ([]) 6 (read kind.Abs 2 45 100 154424509500 73787105146) }
     ensures without_back { AnswersNext 1000 false ([]) 5 (read kind.Abs 2 45 100 154424509500 73787105146) }
     ensures again { AnswersNext 1000 true ([]) 3 (entry.Again kind.Fast 4 24) }
@@ -237,6 +242,7 @@ pub fn clocks_are_interrupted()
 pub fn fallen_clocks_are_refused()
     ensures mono { Rises ticks ((read kind.Mono 2 45 100 150323855380 73787105146 ∷ []) ∷ (read kind.Mono 2 46 100 150323855379 73787113735 ∷ []) ∷ []) → ⊥ }
     ensures back { Rises ticks ((read kind.Mono 2 45 100 150323855380 73787105146 ∷ []) ∷ (read kind.Back 2 46 100 150323855379 73787113735 ∷ []) ∷ []) → ⊥ }
+    ensures at_one_count { Rises ticks ((read kind.Mono 2 45 100 150323855380 73787105146 ∷ []) ∷ (read kind.Mono 2 45 100 150323855379 73787105146 ∷ []) ∷ []) → ⊥ }
     ensures uptime { Rises ticks ((read kind.Uptime 2 45 0 150323855380 73787105146 ∷ []) ∷ (read kind.Uptime 2 46 0 150323855379 73787113735 ∷ []) ∷ []) → ⊥ }
 {}
 

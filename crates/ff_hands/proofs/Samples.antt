@@ -3,7 +3,7 @@ use Rattle.std.proofs.Common.{◌≡◌, ℕ, zero, suc, ◌+◌, List, [], ◌�
 use Rattle.std.specs.Prelude.{⊤}
 use Rattle.ff_hands.specs.Journals.{Follows, IsJournal}
 use Rattle.ff_hands.specs.Windups.{cold, wind_of}
-use Rattle.ff_hands.specs.Samples.{ticks, warm_ticks, set, taken, on, guessed, jumped, jumped_on}
+use Rattle.ff_hands.specs.Samples.{ticks, warm_ticks, steered_ticks, set, taken, on, guessed, jumped, jumped_on, steered, steered_on}
 use Rattle.ff_hands.specs.declared.hands.Hands.{Hands}
 
 -- each tick follows the one before it
@@ -35,6 +35,10 @@ pub jumped_journal : IsJournal warm_ticks
 unfolding wind_of
 jumped_journal = journal_by _ (record { fits = refl; wound = refl }, (record { fits = refl; wound = refl }, (record { fits = refl; wound = refl }, tt)))
 
+pub steered_journal : IsJournal steered_ticks
+unfolding wind_of
+steered_journal = journal_by _ (record { fits = refl; wound = refl }, (record { fits = refl; wound = refl }, (record { fits = refl; wound = refl }, (record { fits = refl; wound = refl }, (record { fits = refl; wound = refl }, (record { fits = refl; wound = refl }, (record { fits = refl; wound = refl }, tt)))))))
+
 -- the ticks by their places
 pub at_one : slice_get ticks 1 ≡ Some set
 at_one = refl
@@ -53,3 +57,9 @@ jump_at_two = refl
 
 pub jump_at_three : slice_get warm_ticks 3 ≡ Some jumped_on
 jump_at_three = refl
+
+pub steered_at_four : slice_get steered_ticks 4 ≡ Some steered
+steered_at_four = refl
+
+pub steered_at_five : slice_get steered_ticks 5 ≡ Some steered_on
+steered_at_five = refl

@@ -1,5 +1,5 @@
--- Two small journals with numbers, by which laws tell what is legal and what is not.
-use Rattle.std.specs.Prelude.{ℕ, ◌+◌, ◌-◌, ◌*◌, pos, Bool, true, false, List, [], ◌∷◌}
+-- Three small journals with numbers, by which laws tell what is legal and what is not.
+use Rattle.std.specs.Prelude.{ℕ, ◌+◌, ◌-◌, ◌*◌, pos, negsuc, Bool, true, false, List, [], ◌∷◌}
 use Rattle.ff_grain.specs.declared.bintime.Bintime.{Bintime}
 use Rattle.ff_hands.specs.Windups.{cold}
 use Rattle.ff_hands.specs.declared.estimates.Estimate.{Estimate}
@@ -59,6 +59,48 @@ jumped_on = record { count = 40; time = time 101 85899346000; lerp = time 101 85
 -- a journal of four ticks, with a jump
 abbrev pub warm_ticks : List Hands
 warm_ticks = cold ∷ guessed ∷ jumped ∷ jumped_on ∷ []
+
+-- A clock with a period of 2^44 grains, so that a second has 1048576 counts. It is set to 100 s while it is not
+-- synchronised, and stays so
+abbrev pub warming : Bintime → ℕ → Estimate
+warming at count = record { update_time = at; update_ffcount = count; leapsec_next = 0; period = 17592186044416; errb_abs = 0; errb_rate = 0; status = marks false true; leapsec_total = pos 0; leapsec = pos 0 }
+
+abbrev pub unsynced_estimate : Estimate
+unsynced_estimate = record (warming (time 100 0) 0) { status = marks true false }
+
+abbrev pub begun : Hands
+begun = record { count = 0; time = time 100 0; lerp = time 100 0; period_lerp = 17592186044416; boot = time 100 0; kstatus = marks true false; how = how.Reset; est = unsynced_estimate }
+
+abbrev pub begun_on : Hands
+begun_on = record begun { count = 1048576; time = time 101 0; lerp = time 101 0; how = how.Plain }
+
+-- two seconds ahead it jumps
+abbrev pub warmed : Hands
+warmed = record { count = 2097152; time = time 104 0; lerp = time 104 0; period_lerp = 17592186044416; boot = time 102 0; kstatus = marks false true; how = how.Jump; est = warming (time 103 0) 1048576 }
+
+-- two seconds ahead again, it is steered: by 5 ms in each of the two seconds between the estimates, over the
+-- counts between them
+abbrev pub steered : Hands
+steered = record { count = 3670016; time = time 107 9223372036854775808; lerp = time 105 9223372036854775808; period_lerp = 17680146974634; boot = time 102 0; kstatus = marks false true; how = how.Take; est = warming (time 107 0) 3145728 }
+
+-- the absolute clock goes by the period, and the uninterrupted one by its slope
+abbrev pub steered_on : Hands
+steered_on = record steered { count = 4718592; time = time 108 9223372036854775808; lerp = time 106 9315605757219045376; how = how.Plain }
+
+-- the estimate is 2049 s old, though the tick before is not
+abbrev pub aged : Hands
+aged = record steered { count = 2151677952; time = time 2156 0; lerp = time 2164 4473335429110693888; kstatus = marks true true; how = how.Plain }
+
+-- the last time that an estimate may have, with a leap second less that is due
+abbrev pub last_estimate : Estimate
+last_estimate = record (warming (time 35184372088831 18446744073709551615) 2152726528) { leapsec = negsuc 0 }
+
+abbrev pub jumped_far : Hands
+jumped_far = record { count = 2152726528; time = last_estimate.update_time; lerp = last_estimate.update_time; period_lerp = 17592186044416; boot = time 35184372086768 13881174924234588159; kstatus = marks false true; how = how.Jump; est = last_estimate }
+
+-- a journal of eight ticks, with a take that steers the clock between two jumps
+abbrev pub steered_ticks : List Hands
+steered_ticks = cold ∷ begun ∷ begun_on ∷ warmed ∷ steered ∷ steered_on ∷ aged ∷ jumped_far ∷ []
 
 -- hands that tell another way, count, time, boot time or estimate than theirs
 abbrev pub by_way : How → Hands → Hands

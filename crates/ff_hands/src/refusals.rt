@@ -1,14 +1,16 @@
-// Two small journals, and what may follow in them and what may not.
+// Three small journals, and what may follow in them and what may not.
 ghost use Rattle.std.specs.Prelude.{◌^◌, [], ◌∷◌};
 ghost use Rattle.ff_hands.specs.Journals.{Follows, IsJournal};
-ghost use Rattle.ff_hands.specs.Samples.{ticks, warm_ticks, set, taken, on, guessed, jumped, jumped_on, first_estimate, time, by_way, at_count, a_grain_on, booted_at, by_estimate};
+ghost use Rattle.ff_hands.specs.Samples.{ticks, warm_ticks, steered_ticks, set, taken, on, guessed, jumped, jumped_on, first_estimate, time, by_way, at_count, a_grain_on, booted_at, by_estimate};
 ghost use Rattle.ff_hands.specs.Windups.{cold};
 ghost use Rattle.ff_hands.specs.declared.hands.How.TheVariants as how;
 
-/// The law that two samples are journals: one with a reset, a take and plain ticks, and one with a jump.
+/// The law that three samples are journals: one with a reset, a take and plain ticks, one with a jump, and
+/// one in which a take steers the uninterrupted clock and the estimate gets old.
 pub fn samples_are_journals()
     ensures taken { IsJournal ticks }
     ensures jumped { IsJournal warm_ticks }
+    ensures steered { IsJournal steered_ticks }
 {}
 
 /// The law of what is no journal: one that does not begin with the cold hands, or in which a tick does not

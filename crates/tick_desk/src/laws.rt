@@ -1,11 +1,22 @@
 // What holds of calls that are made in parts.
-ghost use Rattle.std.specs.Prelude.{◌≡◌, ◌∷◌, ℕ, []};
+ghost use Rattle.std.specs.Prelude.{◌≡◌, ◌∷◌, ◌+◌, ◌≤◌, ◌<◌, ◌^◌, ℕ, List, false, []};
+ghost use Rattle.ff_hands.specs.declared.hands.Hands.{Hands};
+ghost use Rattle.clock_lines.specs.Readings.{reading_at};
+ghost use Rattle.clock_lines.specs.Values.{MayRead};
+ghost use Rattle.clock_lines.specs.declared.readings.Entry.TheVariants as entry;
+ghost use Rattle.clock_lines.specs.declared.readings.Reading.{Reading};
+ghost use Rattle.clock_logs.specs.Legal.{quick, way_of};
+ghost use Rattle.tick_table.specs.Steps.{IsSoundAt};
+ghost use Rattle.ff_hands.specs.Windups.{cold};
+ghost use Rattle.tick_desk.specs.Shows.{IsFresh, PenShows};
+ghost use Rattle.tick_desk.specs.Winds.{IsCounter};
+ghost use Rattle.tick_desk.specs.declared.reads.Answer.TheVariants as answer;
 ghost use Rattle.clock_lines.specs.declared.readings.Entry.{Entry};
 ghost use Rattle.clock_lines.specs.declared.readings.Kind.{Kind};
 ghost use Rattle.tick_reads.specs.declared.loads.Load.TheVariants.{Turn};
 ghost use Rattle.tick_laws.specs.Goes.{Calls, ask_of};
 ghost use Rattle.tick_table.specs.Sees.{PassSees};
-ghost use Rattle.tick_desk.specs.Answers.{Adds, Finishes};
+ghost use Rattle.tick_desk.specs.Answers.{Adds, Finishes, IsEntryBy, IsLate};
 
 /// The law that a beginning and the rest of it are one read: what `begin` and `finish` say of a pass
 /// comes to what `read` says of it.
@@ -13,4 +24,29 @@ pub fn beginnings_and_rests_are_reads()
     ensures { (old begun done : PassSees) (kind : Kind) (first : ℕ) (e : Entry) →
         begun.table ≡ old.table → Calls old.view begun.view (ask_of kind) (Turn first ∷ []) →
         Finishes begun done kind e → Adds old done (ask_of kind) e }
+{}
+
+/// The law that a reading is all by the hands of its tick, which stand there in a journal, and at a count where
+/// they may be read.
+pub fn readings_are_by_hands()
+    ensures stands { (h : Hands) (r : Reading) → IsEntryBy h (entry.Read r) → IsSoundAt r.tick h }
+    ensures is { (h : Hands) (r : Reading) → IsEntryBy h (entry.Read r) → r ≡ reading_at h r.tick r.kind r.count }
+    ensures place { (h : Hands) (r : Reading) → IsEntryBy h (entry.Read r) → MayRead r.kind h.count r.count }
+    ensures small { (h : Hands) (r : Reading) → IsEntryBy h (entry.Read r) → r.count < 2 ^ 62 }
+{}
+
+/// The law that a read which looks at a mark is made again only for a mark of a tick at least ten later, and
+/// that the pen meets the counter at its top while no crank is out, and never below it.
+pub fn answers_are_bounded()
+    ensures late { (k : Kind) (first last : ℕ) → way_of k ≡ quick → IsLate k (answer.Again first last) → first + 19 ≤ last }
+    ensures top { (p : PenShows) (c : ℕ) → IsCounter p c → p.top ≤ c }
+    ensures home { (p : PenShows) (c : ℕ) → IsCounter p c → p.out ≡ false → c ≡ p.top }
+{}
+
+/// The law of a desk that nothing was done with: only the cold hands are there, the counter was raised to
+/// nothing, no crank is out, and no pass is there or was ever made.
+pub fn fresh_desks_are_unused()
+    ensures journal { (pen : PenShows) (passes : List PassSees) → IsFresh pen passes → pen.journal ≡ cold ∷ [] }
+    ensures pen { (pen : PenShows) (passes : List PassSees) → IsFresh pen passes → (pen.top ≡ 0) × (pen.out ≡ false) × (pen.made ≡ 0) }
+    ensures passes { (pen : PenShows) (passes : List PassSees) → IsFresh pen passes → passes ≡ [] }
 {}

@@ -23,7 +23,10 @@ mod winds;
 pub use convert::Converted;
 pub use crank::Crank;
 pub use desk::Desk;
-pub use laws::beginnings_and_rests_are_reads;
+pub use laws::{
+    answers_are_bounded, beginnings_and_rests_are_reads, fresh_desks_are_unused,
+    readings_are_by_hands,
+};
 pub use note::Note;
 pub use pass::Pass;
 pub use pen::Pen;

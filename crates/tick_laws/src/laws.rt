@@ -1,5 +1,7 @@
 // What holds of the logs that a pen took in, of any legal logs, and of the entries of calls.
-ghost use Rattle.std.specs.Prelude.{◌≡◌, ℕ, false, List, slice_get, Some};
+ghost use Rattle.std.specs.Prelude.{◌≡◌, ◌≢◌, ℕ, ◌+◌, ◌*◌, ◌≤◌, ◌++◌, false, List, slice_get, Some};
+ghost use mathlib.Core.Option.{some};
+ghost use lib.ListN.{get_elem?};
 ghost use Rattle.ff_hands.specs.declared.hands.Hands.{Hands};
 ghost use Rattle.clock_lines.specs.declared.readings.Entry.{Entry};
 ghost use Rattle.clock_lines.specs.declared.readings.Kind.TheVariants.{Back};
@@ -11,8 +13,12 @@ ghost use Rattle.clock_logs.specs.declared.noted.Kept.{Kept};
 ghost use Rattle.tick_reads.specs.Reads.{Reads};
 ghost use Rattle.tick_reads.specs.declared.loads.Ask.{Ask};
 ghost use Rattle.tick_reads.specs.declared.loads.Load.{Load};
+ghost use Rattle.tick_reads.specs.Looks.{counters_in, full_mark, turns_in};
+ghost use Rattle.tick_laws.specs.Goes.{Calls, marks_in};
 ghost use Rattle.tick_laws.specs.Logs.{IsKeptLegal};
 ghost use Rattle.tick_table.specs.Steps.{LegalLogs};
+ghost use Rattle.tick_views.specs.declared.views.MarkLoad.{MarkLoad};
+ghost use Rattle.tick_views.specs.declared.views.PassView.{PassView};
 ghost use Rattle.tick_views.specs.declared.views.PenView.{PenView};
 
 /// The law that what the pen kept of a reader is legal by the pen's journal alone, where no windup
@@ -38,4 +44,21 @@ pub fn conversions_agree()
 /// conversion, but for `Again`, is at the count that was given.
 pub fn calls_are_answered_as_asked()
     ensures { (ask : Ask) (loads : List Load) (e : Entry) → Reads ask loads e → IsAnswerTo ask.kind ask.given e }
+{}
+
+/// The law that a call of a pass keeps its number and all that it loaded before: the turn words, the counters
+/// and the marks of the call come behind them, in order.
+pub fn calls_keep_their_loads()
+    ensures number { (before after : PassView) (ask : Ask) (loads : List Load) → Calls before after ask loads → after.number ≡ before.number }
+    ensures turns { (before after : PassView) (ask : Ask) (loads : List Load) → Calls before after ask loads → after.turns ≡ before.turns ++ turns_in loads }
+    ensures counters { (before after : PassView) (ask : Ask) (loads : List Load) → Calls before after ask loads → after.counters ≡ before.counters ++ counters_in loads }
+    ensures marks { (before after : PassView) (ask : Ask) (loads : List Load) → Calls before after ask loads → after.marks ≡ before.marks ++ marks_in loads }
+{}
+
+/// The law that a call of a pass sees no fewer ticks than the pass had seen: each turn word is of the newest
+/// of these or of a later tick, and a mark that is not its tick's own is of a tick at least ten later.
+pub fn calls_go_on()
+    ensures seen { (before after : PassView) (ask : Ask) (loads : List Load) → Calls before after ask loads → before.seen ≤ after.seen }
+    ensures turns { (before after : PassView) (ask : Ask) (loads : List Load) → Calls before after ask loads → (i x : ℕ) → get_elem? (turns_in loads) i ≡ some x → 2 * before.seen ≤ x + 2 }
+    ensures marks { (before after : PassView) (ask : Ask) (loads : List Load) → Calls before after ask loads → (i : ℕ) (l : MarkLoad) → get_elem? (marks_in loads) i ≡ some l → l.mark ≢ full_mark l.tick → 2 * l.tick + 21 ≤ l.mark }
 {}

@@ -19,5 +19,8 @@
 mod laws;
 mod refusals;
 
-pub use laws::{calls_are_answered_as_asked, conversions_agree, kept_logs_are_legal};
+pub use laws::{
+    calls_are_answered_as_asked, calls_go_on, calls_keep_their_loads, conversions_agree,
+    kept_logs_are_legal,
+};
 pub use refusals::kept_logs_are_refused;

@@ -1,13 +1,14 @@
 // What views may know of a small world, and what not.
-ghost use Rattle.std.specs.Prelude.{◌≡◌, ℕ, max, ◌++◌, ◌∷◌, []};
+ghost use Rattle.std.specs.Prelude.{◌≡◌, ℕ, max, length, ◌++◌, ◌∷◌, []};
 ghost use Rattle.clock_logs.specs.Legal.{full, quick, past};
 ghost use Rattle.clock_lines.specs.declared.readings.Entry.TheVariants as entry;
 ghost use Rattle.tick_views.specs.Samples.{small};
-ghost use Rattle.tick_views.specs.Views.{crank_raised, kept_of, top_raised};
+ghost use Rattle.tick_views.specs.Views.{crank_raised, kept_of, noted_cut, pass_cut, top_raised};
 ghost use Rattle.tick_views.specs.Worlds.{AllBelow, FitsAgain, FitsEntry, NeverFall};
 ghost use Rattle.tick_views.specs.declared.views.CrankView.{CrankView};
 ghost use Rattle.tick_views.specs.declared.views.PassView.{PassView};
 ghost use Rattle.tick_views.specs.declared.views.PenView.{PenView};
+ghost use Rattle.tick_views.specs.declared.views.View.TheVariants.{Note, Pass, Pen};
 
 /// The law that the pen keeps all that a pass was answered and loaded of the counter.
 pub fn passes_are_kept_whole()
@@ -15,6 +16,15 @@ pub fn passes_are_kept_whole()
     ensures seen { (v : PassView) → (kept_of v).seen ≡ v.seen }
     ensures counters { (v : PassView) → (kept_of v).counters ≡ v.counters }
     ensures entries { (v : PassView) → (kept_of v).entries ≡ v.entries }
+{}
+
+/// The law that a pass that the pen cuts off has the next number, has seen all ticks so far and has loaded
+/// nothing, and that a note tells all ticks so far.
+pub fn cuts_have_seen_all()
+    ensures number { (p : PenView) (v : PassView) → pass_cut (Pen p) ≡ Pass v → v.number ≡ p.made }
+    ensures seen { (p : PenView) (v : PassView) → pass_cut (Pen p) ≡ Pass v → v.seen ≡ length p.journal }
+    ensures loads { (p : PenView) (v : PassView) → pass_cut (Pen p) ≡ Pass v → (v.turns ≡ []) × (v.counters ≡ []) × (v.entries ≡ []) }
+    ensures note { (p : PenView) → noted_cut (Pen p) ≡ Note (length p.journal) }
 {}
 
 /// The law that a raise, by the pen or by the crank, is kept with the counter as it left it, and that the top

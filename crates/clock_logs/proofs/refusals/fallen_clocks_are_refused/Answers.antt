@@ -12,3 +12,6 @@ returns-clause-back c rises = (let order = two_rise ticks line _ _ rises tt tt (
 
 pub returns-clause-uptime : goal.returns-clause-uptime
 returns-clause-uptime c rises = (let order = two_rise ticks uptime _ _ rises tt tt (omega arith) (same_tick uptime ticks 2) in grind arith)
+
+pub returns-clause-at_one_count : goal.returns-clause-at_one_count
+returns-clause-at_one_count c rises = (let order = two_rise ticks line _ _ rises tt tt (omega arith) (same_tick line ticks 2) in grind arith)
