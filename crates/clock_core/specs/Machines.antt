@@ -32,7 +32,8 @@ refusal_ahead counter e = if nat_lt counter e.update_ffcount then Some (refuse.A
 -- and one to take has to be of a later count than the newest estimate, which is looked at first
 abbrev pub refusal : Hands → ℕ → Order → Option Refuse
 refusal last counter order.Plain = None
-refusal last counter (order.Take e) = if nat_le e.update_ffcount last.est.update_ffcount then Some (refuse.Stale last.est.update_ffcount) else refusal_ahead counter e
+refusal last counter (order.Take e) = if nat_le e.update_ffcount last.est.update_ffcount then Some
+    (refuse.Stale last.est.update_ffcount) else refusal_ahead counter e
 refusal last counter (order.Reset e) = refusal_ahead counter e
 
 -- the number of a new tick, unless the order is refused

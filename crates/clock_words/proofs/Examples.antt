@@ -19,7 +19,8 @@ places : items_in make_row (codes "7" ∷ codes "3" ∷ []) ≡ Some ((codes "NU
 unfolding items_in items_from
 places = refl
 
-mixed : items_in replay_row (codes "--back" ∷ codes "--reads" ∷ codes "9" ∷ codes "--ticks=0" ∷ []) ≡ Some ((codes "back", codes "true") ∷ (codes "reads", codes "9") ∷ (codes "ticks", codes "0") ∷ [])
+mixed : items_in replay_row (codes "--back" ∷ codes "--reads" ∷ codes "9" ∷ codes "--ticks=0" ∷ []) ≡ Some
+    ((codes "back", codes "true") ∷ (codes "reads", codes "9") ∷ (codes "ticks", codes "0") ∷ [])
 unfolding items_in items_from
 mixed = refl
 
@@ -79,7 +80,8 @@ plain_replay : command_in (codes "replay" ∷ []) ≡ Some (command.Report (repo
 unfolding command_in items_in items_from
 plain_replay = refl
 
-full_replay : command_in (codes "replay" ∷ codes "--crank" ∷ codes "--readers=16" ∷ codes "--ticks" ∷ codes "15" ∷ codes "--back" ∷ codes "--reads" ∷ codes "16384" ∷ []) ≡ Some (command.Report (report.Replay 15 16 16384 true true))
+full_replay : command_in (codes "replay" ∷ codes "--crank" ∷ codes "--readers=16" ∷ codes "--ticks" ∷ codes "15" ∷ codes "--back" ∷ codes "--reads"
+    ∷ codes "16384" ∷ []) ≡ Some (command.Report (report.Replay 15 16 16384 true true))
 unfolding command_in items_in items_from
 full_replay = refl
 

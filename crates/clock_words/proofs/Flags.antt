@@ -28,7 +28,8 @@ value_more n [] m v = by_name (bytes_eq m n) refl
     by_name false e = rw e refl
 value_more n (x ∷ xs) m v = by_name (bytes_eq x.0 n) refl (value_more n xs m v)
   where
-    by_name : (b : Bool) → bytes_eq x.0 n ≡ b → value_of n (xs ++ (m, v) ∷ []) ≡ with_value n m v (value_of n xs) → value_of n ((x ∷ xs) ++ (m, v) ∷ []) ≡ with_value n m v (value_of n (x ∷ xs))
+    by_name : (b : Bool) → bytes_eq x.0 n ≡ b → value_of n (xs ++ (m, v) ∷ []) ≡ with_value n m v (value_of n xs)
+        → value_of n ((x ∷ xs) ++ (m, v) ∷ []) ≡ with_value n m v (value_of n (x ∷ xs))
     by_name true e more = rw e refl
     by_name false e more = rw e more
 
@@ -42,7 +43,8 @@ absent_other n m items e = by_given (is_given m items) refl
 
     by_given : (b : Bool) → is_given m items ≡ b → value_of n (with_absent items m) ≡ value_of n items
     by_given true f = rw f refl
-    by_given false f = rw f (value_more n items m (flag_text false) ∙ ap (λ b. if is_some (value_of n items) then value_of n items else (if b then Some (flag_text false) else None)) e ∙ same (value_of n items))
+    by_given false f = rw f (value_more n items m (flag_text false)
+        ∙ ap (λ b. if is_some (value_of n items) then value_of n items else (if b then Some (flag_text false) else None)) e ∙ same (value_of n items))
 
 absent_there : (n m v : Text) (items : List Item) → value_of n items ≡ Some v → value_of n (with_absent items m) ≡ Some v
 absent_there n m v items e = by_given (is_given m items) refl
@@ -74,11 +76,14 @@ option_value n [] items e = refl
 option_value n (m ∷ ms) items e = let p = or_false (bytes_eq m n) (has ms n) e in option_value n ms (with_absent items m) p.1 ∙ absent_other n m items p.0
 
 -- and that of a flag
-own_value : (n : Text) (flags : List Text) (items : List Item) → has flags n ≡ true → value_of n (fold with_absent items flags) ≡ Some (unwrap_or (value_of n items) (flag_text false))
+own_value : (n : Text) (flags : List Text) (items : List Item) → has flags n ≡ true
+    → value_of n (fold with_absent items flags) ≡ Some (unwrap_or (value_of n items) (flag_text false))
 own_value n [] items e = absurd (true≢false (sym e))
 own_value n (m ∷ ms) items e = by_name (bytes_eq m n) refl (own_value n ms (with_absent items m))
   where
-    by_name : (b : Bool) → bytes_eq m n ≡ b → (has ms n ≡ true → value_of n (fold with_absent (with_absent items m) ms) ≡ Some (unwrap_or (value_of n (with_absent items m)) (flag_text false))) → value_of n (fold with_absent items (m ∷ ms)) ≡ Some (unwrap_or (value_of n items) (flag_text false))
+    by_name : (b : Bool) → bytes_eq m n ≡ b → (has ms n ≡ true → value_of n (fold with_absent (with_absent items m) ms) ≡ Some
+        (unwrap_or (value_of n (with_absent items m)) (flag_text false)))
+        → value_of n (fold with_absent items (m ∷ ms)) ≡ Some (unwrap_or (value_of n items) (flag_text false))
     by_name true f more =
         let same : m ≡ n = (bytes_eq-Decides m n).0 f in
         stays_there n _ ms (with_absent items m) (ap (λ k. value_of n (with_absent items k)) same ∙ absent_own n items)
@@ -95,18 +100,23 @@ one_more n m v items own more = by_name (bytes_eq m n) refl
     by_name true e = rw e (ap (λ k. Some k) (own e))
     by_name false e = rw e more
 
-is_true : (row : Row) (n : Text) → has row.options n ≡ false → (left words : List Text) (items : List Item) → AreParts row left words items → has left n ≡ false → IsTrue n items
+is_true : (row : Row) (n : Text) → has row.options n ≡ false → (left words : List Text) (items : List Item) → AreParts row left words items
+    → has left n ≡ false → IsTrue n items
 is_true row n other left words items (nothing l) h = refl
 is_true row n other left words items (flag m l ws is f rest) h = one_more n m (codes "true") is (λ e. refl) (is_true row n other l ws is rest h)
-is_true row n other left words items (apart m v l ws is f u rest) h = one_more n m v is (λ e. absurd (true≢false (sym f ∙ ap (has row.options) ((bytes_eq-Decides m n).0 e) ∙ other))) (is_true row n other l ws is rest h)
-is_true row n other left words items (joined m v l ws is f rest) h = one_more n m v is (λ e. absurd (true≢false (sym f ∙ ap (has row.options) ((bytes_eq-Decides m n).0 e) ∙ other))) (is_true row n other l ws is rest h)
+is_true row n other left words items (apart m v l ws is f u rest) h =
+    one_more n m v is (λ e. absurd (true≢false (sym f ∙ ap (has row.options) ((bytes_eq-Decides m n).0 e) ∙ other))) (is_true row n other l ws is rest h)
+is_true row n other left words items (joined m v l ws is f rest) h =
+    one_more n m v is (λ e. absurd (true≢false (sym f ∙ ap (has row.options) ((bytes_eq-Decides m n).0 e) ∙ other))) (is_true row n other l ws is rest h)
 is_true row n other left words items (placed m v l ws is u rest) h =
     let p = or_false (bytes_eq m n) (has l n) h in
     one_more n m v is (λ e. absurd (true≢false (sym e ∙ p.0))) (is_true row n other l ws is rest p.1)
 
 -- the value of a flag says whether it is given
-pub flag_value : (row : Row) (n : Text) (words : List Text) (items : List Item) → AreParts row row.places words items → has row.flags n ≡ true → has row.options n ≡ false → has row.places n ≡ false → value_of n (with_flags row items) ≡ Some (flag_text (is_given n items))
-flag_value row n words items parts here option place = own_value n row.flags items here ∙ ap (λ x. Some (unwrap_or x (flag_text false))) (is_true row n option row.places words items parts place) ∙ by_given (is_given n items)
+pub flag_value : (row : Row) (n : Text) (words : List Text) (items : List Item) → AreParts row row.places words items → has row.flags n ≡ true
+    → has row.options n ≡ false → has row.places n ≡ false → value_of n (with_flags row items) ≡ Some (flag_text (is_given n items))
+flag_value row n words items parts here option place = own_value n row.flags items here
+    ∙ ap (λ x. Some (unwrap_or x (flag_text false))) (is_true row n option row.places words items parts place) ∙ by_given (is_given n items)
   where
     by_given : (b : Bool) → Some (unwrap_or (if b then Some (flag_text true) else None) (flag_text false)) ≡ Some (flag_text b)
     by_given true = refl

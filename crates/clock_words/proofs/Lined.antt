@@ -56,7 +56,8 @@ record IsPlaced (left : List Text) (word : Text) (words : List Text) (items : Li
   parts : AreParts run_row more words rest
 
 -- where it is not the flag
-placed_word : (left all : List Text) (items : List Item) → AreParts run_row left all items → (w : Text) (words : List Text) → all ≡ w ∷ words → bytes_eq w (dashed ideal_name) ≡ false → IsPlaced left w words items
+placed_word : (left all : List Text) (items : List Item) → AreParts run_row left all items → (w : Text) (words : List Text) → all ≡ w ∷ words
+    → bytes_eq w (dashed ideal_name) ≡ false → IsPlaced left w words items
 placed_word left all items (nothing l) w words e other = absurd (let q : [] ≡ w ∷ words = e in cc)
 placed_word left all items (flag n l ws is h rest) w words e other =
     let same : dashed n ≡ w = (let q : dashed n ∷ ws ≡ w ∷ words = e in cc) in
@@ -66,7 +67,8 @@ placed_word left all items (joined n v l ws is h rest) w words e other = absurd 
 placed_word left all items (placed n v l ws is u rest) w words e other =
     let same : v ≡ w = (let q : v ∷ ws ≡ w ∷ words = e in cc) in
     let others : ws ≡ words = (let q : v ∷ ws ≡ w ∷ words = e in cc) in
-    record { place = n; more = l; rest = is; left_is = refl; items_are = ap (λ x. (n, x) ∷ is) same; parts = subst (λ ws. AreParts run_row l ws is) others rest }
+    record { place = n; more = l; rest = is; left_is = refl; items_are = ap (λ x. (n, x) ∷ is) same;
+        parts = subst (λ ws. AreParts run_row l ws is) others rest }
 
 -- no words are no items
 no_items : (left words : List Text) (items : List Item) → AreParts run_row left words items → words ≡ [] → items ≡ []
@@ -80,13 +82,15 @@ abbrev only_flag : List Item
 only_flag = (ideal_name, codes "true") ∷ []
 
 -- behind its places `run` has its flag, or nothing
-few_words : (left words : List Text) (items : List Item) → AreParts run_row left words items → left ≡ [] → AreOnce items → ((words ≡ []) × (items ≡ [])) ⊎ ((words ≡ codes "--ideal" ∷ []) × (items ≡ only_flag))
+few_words : (left words : List Text) (items : List Item) → AreParts run_row left words items → left ≡ [] → AreOnce items
+    → ((words ≡ []) × (items ≡ [])) ⊎ ((words ≡ codes "--ideal" ∷ []) × (items ≡ only_flag))
 unfolding IsDistinct
 few_words left words items (nothing l) e once = inl (refl, refl)
 few_words left words items (flag n l ws is h rest) e once =
     let same = ideal_flag n h in
     elim (few_words l ws is rest e once.1) [
-      | inl none ↦ inr (ap (λ m. dashed m ∷ ws) same ∙ ap (λ ws. codes "--ideal" ∷ ws) none.0, ap (λ m. (m, codes "true") ∷ is) same ∙ ap (λ is. (ideal_name, codes "true") ∷ is) none.1)
+      | inl none ↦ inr (ap (λ m. dashed m ∷ ws) same ∙ ap (λ ws. codes "--ideal" ∷ ws) none.0, ap (λ m. (m, codes "true") ∷ is) same
+          ∙ ap (λ is. (ideal_name, codes "true") ∷ is) none.1)
       | inr one ↦ absurd (
           let twice : AreOnce ((n, codes "true") ∷ only_flag) = subst (λ is. AreOnce ((n, codes "true") ∷ is)) one.1 once in
           true≢false (sym ((bytes_eq-Decides n ideal_name).1 same) ∙ twice.0.0))
@@ -97,7 +101,8 @@ few_words left words items (placed n v l ws is u rest) e once = absurd (let q : 
 
 -- ---- from a command to a line
 
-bare_line : (r : Report) (name : Text) (words : List Text) (c : Command) → IsLine (name ∷ []) (command.Report r) → option_map (λ items. command.Report r) (items_in bare_row words) ≡ Some c → IsLine (name ∷ words) c
+bare_line : (r : Report) (name : Text) (words : List Text) (c : Command) → IsLine (name ∷ []) (command.Report r)
+    → option_map (λ items. command.Report r) (items_in bare_row words) ≡ Some c → IsLine (name ∷ words) c
 bare_line r name words c line e = by_items (items_in bare_row words) refl
   where
     by_items : (x : Option (List Item)) → items_in bare_row words ≡ x → IsLine (name ∷ words) c
@@ -110,9 +115,11 @@ bare_line r name words c line e = by_items (items_in bare_row words) refl
 ticks_line : (words : List Text) (c : Command) → option_and_then ticks_of (items_in ticks_row words) ≡ Some c → IsLine (codes "ticks" ∷ words) c
 ticks_line words c e = by_items (items_in ticks_row words) refl
   where
-    by_value : (items : List Item) → items_in ticks_row words ≡ Some items → (n : Option ℕ) → ticks_told items ≡ n → option_map (λ n. command.Report (report.Ticks n)) n ≡ Some c → IsLine (codes "ticks" ∷ words) c
+    by_value : (items : List Item) → items_in ticks_row words ≡ Some items → (n : Option ℕ) → ticks_told items ≡ n
+        → option_map (λ n. command.Report (report.Ticks n)) n ≡ Some c → IsLine (codes "ticks" ∷ words) c
     by_value items f None g h = absurd (let q : None ≡ Some c = h in cc)
-    by_value items f (Some n) g h = subst (IsLine (codes "ticks" ∷ words)) (let q : command.Report (report.Ticks n) ≡ c = cc in q) (ticks words items n ((written ticks_row refl words items).0 f) g)
+    by_value items f (Some n) g h = subst (IsLine (codes "ticks" ∷ words)) (let q : command.Report (report.Ticks n) ≡ c = cc in q)
+        (ticks words items n ((written ticks_row refl words items).0 f) g)
 
     by_items : (x : Option (List Item)) → items_in ticks_row words ≡ x → IsLine (codes "ticks" ∷ words) c
     by_items None f = absurd (let q : None ≡ Some c = sym (rw f refl) ∙ e in cc)
@@ -121,13 +128,17 @@ ticks_line words c e = by_items (items_in ticks_row words) refl
 replay_line : (words : List Text) (c : Command) → option_and_then replay_of (items_in replay_row words) ≡ Some c → IsLine (codes "replay" ∷ words) c
 replay_line words c e = by_items (items_in replay_row words) refl
   where
-    by_numbers : (items : List Item) → items_in replay_row words ≡ Some items → (n : Option ℕ) → ticks_told items ≡ n → (readers : Option ℕ) → readers_told items ≡ readers
-        → (reads : Option ℕ) → reads_told items ≡ reads → replay_by (is_given back_name items) (is_given crank_name items) n readers reads ≡ Some c → IsLine (codes "replay" ∷ words) c
+    by_numbers : (items : List Item) → items_in replay_row words ≡ Some items → (n : Option ℕ) → ticks_told items ≡ n
+        → (readers : Option ℕ) → readers_told items ≡ readers
+        → (reads : Option ℕ) → reads_told items ≡ reads → replay_by (is_given back_name items) (is_given crank_name items) n readers reads ≡ Some c
+            → IsLine (codes "replay" ∷ words) c
     by_numbers items f None k readers l reads m h = absurd (let q : None ≡ Some c = h in cc)
     by_numbers items f (Some n) k None l reads m h = absurd (let q : None ≡ Some c = h in cc)
     by_numbers items f (Some n) k (Some readers) l None m h = absurd (let q : None ≡ Some c = h in cc)
     by_numbers items f (Some n) k (Some readers) l (Some reads) m h =
-        subst (IsLine (codes "replay" ∷ words)) (let q : command.Report (report.Replay n readers reads (is_given back_name items) (is_given crank_name items)) ≡ c = cc in q) (replay words items n readers reads ((written replay_row refl words items).0 f) k l m)
+        subst (IsLine (codes "replay" ∷ words)) (let q : command.Report
+            (report.Replay n readers reads (is_given back_name items) (is_given crank_name items)) ≡ c = cc in q)
+            (replay words items n readers reads ((written replay_row refl words items).0 f) k l m)
 
     by_items : (x : Option (List Item)) → items_in replay_row words ≡ x → IsLine (codes "replay" ∷ words) c
     by_items None f = absurd (let q : None ≡ Some c = sym (rw f refl) ∙ e in cc)
@@ -137,7 +148,8 @@ replay_line words c e = by_items (items_in replay_row words) refl
 abbrev made_by : (ℕ → ℕ → Command) → Option ℕ → Option ℕ → Option Command
 made_by of a b = option_map (λ p. of p.0 p.1) (option_zip a b)
 
-two_numbers : (of : ℕ → ℕ → Command) (IsSo : Command → Type 0) (most : ℕ) (first second : Text) → ((n k : ℕ) → number_within 0 (2 ^ 32 - 1) first ≡ Some n → number_within 1 most second ≡ Some k → IsSo (of n k))
+two_numbers : (of : ℕ → ℕ → Command) (IsSo : Command → Type 0) (most : ℕ)
+    (first second : Text) → ((n k : ℕ) → number_within 0 (2 ^ 32 - 1) first ≡ Some n → number_within 1 most second ≡ Some k → IsSo (of n k))
     → (c : Command) → made_by of (number_within 0 (2 ^ 32 - 1) first) (number_within 1 most second) ≡ Some c → IsSo c
 two_numbers of IsSo most first second so c e = by_numbers (number_within 0 (2 ^ 32 - 1) first) refl (number_within 1 most second) refl e
   where
@@ -150,7 +162,8 @@ no_pair : (of : ℕ → ℕ → Command) (a : Option ℕ) (c : Command) → made
 no_pair of None c e = cc
 no_pair of (Some n) c e = cc
 
-make_items : (words : List Text) (items : List Item) (c : Command) → AreValues words (number_name ∷ count_name ∷ []) items → make_of items ≡ Some c → IsLine (codes "make" ∷ words) c
+make_items : (words : List Text) (items : List Item) (c : Command) → AreValues words (number_name ∷ count_name ∷ []) items → make_of items ≡ Some c
+    → IsLine (codes "make" ∷ words) c
 make_items [] items c a e = absurd (let q : None ≡ Some c = sym (ap make_of a) ∙ e in cc)
 make_items (v ∷ []) items c a e =
     let one : items ≡ (number_name, v) ∷ [] = a.1 ∙ ap (λ is. (number_name, v) ∷ is) a.2 in
@@ -171,13 +184,15 @@ make_line words c e = by_items (items_in make_row words) refl
 abbrev ran : Bool → ℕ → ℕ → Command
 ran ideal number count = command.Run number count ideal
 
-run_items : (words : List Text) (items : List Item) (c : Command) → ideal_is_early words ≡ false → AreParts run_row (number_name ∷ count_name ∷ []) words items → AreOnce items → run_of items ≡ Some c → IsLine (codes "run" ∷ words) c
+run_items : (words : List Text) (items : List Item) (c : Command) → ideal_is_early words ≡ false
+    → AreParts run_row (number_name ∷ count_name ∷ []) words items → AreOnce items → run_of items ≡ Some c → IsLine (codes "run" ∷ words) c
 unfolding IsDistinct
 run_items [] items c late parts once e = absurd (let q : None ≡ Some c = sym (ap run_of (no_items _ [] items parts refl)) ∙ e in cc)
 run_items (v ∷ []) items c late parts once e =
     let first = placed_word _ _ items parts v [] refl (or_false _ false late).0 in
     let place : number_name ≡ first.place = (let q : number_name ∷ count_name ∷ [] ≡ first.place ∷ first.more = first.left_is in cc) in
-    let one : items ≡ (number_name, v) ∷ [] = first.items_are ∙ ap (λ m. (m, v) ∷ first.rest) (sym place) ∙ ap (λ is. (number_name, v) ∷ is) (no_items _ [] first.rest first.parts refl) in
+    let one : items ≡ (number_name, v) ∷ [] = first.items_are ∙ ap (λ m. (m, v) ∷ first.rest) (sym place)
+        ∙ ap (λ is. (number_name, v) ∷ is) (no_items _ [] first.rest first.parts refl) in
     absurd (no_pair (ran false) (number_within 0 (2 ^ 32 - 1) v) c (sym (ap run_of one) ∙ e))
 run_items (v ∷ w ∷ ws) items c late parts once e =
     let others = or_false _ _ late in
@@ -188,21 +203,26 @@ run_items (v ∷ w ∷ ws) items c late parts once e =
     let next : count_name ∷ [] ≡ second.place ∷ second.more = left ∙ second.left_is in
     let place_2 : count_name ≡ second.place = cc in
     let left_2 : second.more ≡ [] = cc in
-    let two : items ≡ (number_name, v) ∷ (count_name, w) ∷ second.rest = first.items_are ∙ ap (λ m. (m, v) ∷ first.rest) (sym place) ∙ ap (λ is. (number_name, v) ∷ is) (second.items_are ∙ ap (λ m. (m, w) ∷ second.rest) (sym place_2)) in
+    let two : items ≡ (number_name, v) ∷ (count_name, w) ∷ second.rest = first.items_are ∙ ap (λ m. (m, v) ∷ first.rest) (sym place)
+        ∙ ap (λ is. (number_name, v) ∷ is) (second.items_are ∙ ap (λ m. (m, w) ∷ second.rest) (sym place_2)) in
     let once_2 : AreOnce ((number_name, v) ∷ (count_name, w) ∷ second.rest) = subst AreOnce two once in
     elim (few_words second.more ws second.rest second.parts left_2 once_2.1.1) [
       | inl none ↦
           let all : items ≡ (number_name, v) ∷ (count_name, w) ∷ [] = two ∙ ap (λ is. (number_name, v) ∷ (count_name, w) ∷ is) none.1 in
-          subst (λ ws. IsLine (codes "run" ∷ v ∷ w ∷ ws) c) (sym none.0) (two_numbers (ran false) (IsLine (codes "run" ∷ v ∷ w ∷ [])) most_ran v w (run v w) c (sym (ap run_of all) ∙ e))
+          subst (λ ws. IsLine (codes "run" ∷ v ∷ w ∷ ws) c) (sym none.0)
+              (two_numbers (ran false) (IsLine (codes "run" ∷ v ∷ w ∷ [])) most_ran v w (run v w) c (sym (ap run_of all) ∙ e))
       | inr one ↦
           let all : items ≡ (number_name, v) ∷ (count_name, w) ∷ only_flag = two ∙ ap (λ is. (number_name, v) ∷ (count_name, w) ∷ is) one.1 in
-          subst (λ ws. IsLine (codes "run" ∷ v ∷ w ∷ ws) c) (sym one.0) (two_numbers (ran true) (IsLine (codes "run" ∷ v ∷ w ∷ codes "--ideal" ∷ [])) most_ran v w (ideal_run v w) c (sym (ap run_of all) ∙ e))
+          subst (λ ws. IsLine (codes "run" ∷ v ∷ w ∷ ws) c) (sym one.0)
+              (two_numbers (ran true) (IsLine (codes "run" ∷ v ∷ w ∷ codes "--ideal" ∷ [])) most_ran v w (ideal_run v w) c (sym (ap run_of all) ∙ e))
     ]
 
-run_line : (words : List Text) (c : Command) → (if ideal_is_early words then None else option_and_then run_of (items_in run_row words)) ≡ Some c → IsLine (codes "run" ∷ words) c
+run_line : (words : List Text) (c : Command) → (if ideal_is_early words then None else option_and_then run_of (items_in run_row words)) ≡ Some c
+    → IsLine (codes "run" ∷ words) c
 run_line words c e = by_flag (ideal_is_early words) refl
   where
-    by_items : ideal_is_early words ≡ false → (x : Option (List Item)) → items_in run_row words ≡ x → option_and_then run_of x ≡ Some c → IsLine (codes "run" ∷ words) c
+    by_items : ideal_is_early words ≡ false → (x : Option (List Item)) → items_in run_row words ≡ x → option_and_then run_of x ≡ Some c
+        → IsLine (codes "run" ∷ words) c
     by_items late None f h = absurd (let q : None ≡ Some c = h in cc)
     by_items late (Some items) f h = let w = (written run_row refl words items).0 f in run_items words items c late w.parts w.once h
 
@@ -211,7 +231,8 @@ run_line words c e = by_flag (ideal_is_early words) refl
     by_flag false f = by_items f (items_in run_row words) refl (sym (rw f refl) ∙ e)
 
 -- words that begin with a name, or with another one
-named_line : (name m : Text) (words : List Text) (c : Command) → (a b : Option Command) → (a ≡ Some c → IsLine (m ∷ words) c) → (b ≡ Some c → IsLine (name ∷ words) c) → (if bytes_eq name m then a else b) ≡ Some c → IsLine (name ∷ words) c
+named_line : (name m : Text) (words : List Text) (c : Command) → (a b : Option Command) → (a ≡ Some c → IsLine (m ∷ words) c)
+    → (b ≡ Some c → IsLine (name ∷ words) c) → (if bytes_eq name m then a else b) ≡ Some c → IsLine (name ∷ words) c
 named_line name m words c a b here other e = by_name (bytes_eq name m) refl
   where
     by_name : (x : Bool) → bytes_eq name m ≡ x → IsLine (name ∷ words) c
@@ -254,7 +275,8 @@ number_plain (x ∷ xs) some = by_dash (x == 45) refl
 place_plain : (least most : ℕ) (text : Text) (n : ℕ) → number_within least most text ≡ Some n → (is_value text ≡ true) × (bytes_eq text (codes "--") ≡ false)
 place_plain least most text n e = number_plain text (is_some_within least most (number_in text) n e)
 
-pair_written : (first second : Text) → (is_value first ≡ true) × (bytes_eq first (codes "--") ≡ false) → (is_value second ≡ true) × (bytes_eq second (codes "--") ≡ false)
+pair_written : (first second : Text) → (is_value first ≡ true) × (bytes_eq first (codes "--") ≡ false) → (is_value second ≡ true)
+    × (bytes_eq second (codes "--") ≡ false)
     → AreWritten make_row (first ∷ second ∷ []) ((number_name, first) ∷ (count_name, second) ∷ [])
 unfolding IsDistinct
 pair_written first second a b = record {
@@ -275,7 +297,8 @@ no_flag text value = by_test (bytes_eq text (codes "--ideal")) refl
 late_flag : (first second : Text) (rest : List Text) → is_value first ≡ true → is_value second ≡ true → ideal_is_early (first ∷ second ∷ rest) ≡ false
 late_flag first second rest a b = rw (no_flag first a, no_flag second b) refl
 
-run_written : (first second : Text) → (is_value first ≡ true) × (bytes_eq first (codes "--") ≡ false) → (is_value second ≡ true) × (bytes_eq second (codes "--") ≡ false)
+run_written : (first second : Text) → (is_value first ≡ true) × (bytes_eq first (codes "--") ≡ false) → (is_value second ≡ true)
+    × (bytes_eq second (codes "--") ≡ false)
     → AreWritten run_row (first ∷ second ∷ []) ((number_name, first) ∷ (count_name, second) ∷ [])
 unfolding IsDistinct
 run_written first second a b = record {
@@ -284,7 +307,8 @@ run_written first second a b = record {
   no_dashes = rw (a.1, b.1) refl;
 }
 
-ideal_written : (first second : Text) → (is_value first ≡ true) × (bytes_eq first (codes "--") ≡ false) → (is_value second ≡ true) × (bytes_eq second (codes "--") ≡ false)
+ideal_written : (first second : Text) → (is_value first ≡ true) × (bytes_eq first (codes "--") ≡ false) → (is_value second ≡ true)
+    × (bytes_eq second (codes "--") ≡ false)
     → AreWritten run_row (first ∷ second ∷ codes "--ideal" ∷ []) ((number_name, first) ∷ (count_name, second) ∷ only_flag)
 unfolding IsDistinct
 ideal_written first second a b = record {
@@ -294,7 +318,8 @@ ideal_written first second a b = record {
 }
 
 -- words whose flag is late are the command of their items
-by_late : (words : List Text) (items : List Item) (c : Command) → ideal_is_early words ≡ false → AreWritten run_row words items → run_of items ≡ Some c → (if ideal_is_early words then None else option_and_then run_of (items_in run_row words)) ≡ Some c
+by_late : (words : List Text) (items : List Item) (c : Command) → ideal_is_early words ≡ false → AreWritten run_row words items
+    → run_of items ≡ Some c → (if ideal_is_early words then None else option_and_then run_of (items_in run_row words)) ≡ Some c
 by_late words items c late w e = rw late (ap (option_and_then run_of) ((written run_row refl words items).1 w) ∙ e)
 
 to_command : (words : List Text) (c : Command) → IsLine words c → command_in words ≡ Some c
@@ -302,7 +327,8 @@ unfolding command_in items_in items_from
 to_command words c stamps = refl
 to_command words c rtt = refl
 to_command words c estimate = refl
-to_command words c (ticks rest items n w h) = ap (option_and_then ticks_of) ((written ticks_row refl rest items).1 w) ∙ ap (option_map (λ n. command.Report (report.Ticks n))) h
+to_command words c (ticks rest items n w h) = ap (option_and_then ticks_of) ((written ticks_row refl rest items).1 w)
+    ∙ ap (option_map (λ n. command.Report (report.Ticks n))) h
 to_command words c (replay rest items n readers reads w k l m) =
     ap (option_and_then replay_of) ((written replay_row refl rest items).1 w)
     ∙ rw (k, l, m) refl
@@ -325,8 +351,10 @@ pub lined : (words : List Text) (c : Command) → (command_in words ≡ Some c) 
 lined words c = (to_line words c, to_command words c)
 
 -- what an answer says of a line, its error replaced
-pub line_mapped : {E D : Type 0} (words : List Text) (P : E → D → Type 0) (r : Result (Option Command) E) (s : Result (Option Command) D) → MatchResult r (λ x. s ≡ Ok x) (λ e. IsErrAnd s (P e)) → IfOk r (λ found. found ≡ command_in words)
+pub line_mapped : {E D : Type 0} (words : List Text) (P : E → D → Type 0) (r : Result (Option Command) E)
+    (s : Result (Option Command) D) → MatchResult r (λ x. s ≡ Ok x) (λ e. IsErrAnd s (P e)) → IfOk r (λ found. found ≡ command_in words)
     → IfOk s (λ found. (c : Command) → (found ≡ Some c) ↔ IsLine words c)
-line_mapped words P (Ok found) s same is = subst (λ t. IfOk t (λ found. (c : Command) → (found ≡ Some c) ↔ IsLine words c)) (sym same) (λ c. (λ h. to_line words c (sym is ∙ h), λ line. is ∙ to_command words c line))
+line_mapped words P (Ok found) s same is = subst (λ t. IfOk t (λ found. (c : Command) → (found ≡ Some c) ↔ IsLine words c)) (sym same)
+    (λ c. (λ h. to_line words c (sym is ∙ h), λ line. is ∙ to_command words c line))
 line_mapped words P (Err e) (Err d) fails is = tt
 line_mapped words P (Err e) (Ok found) fails is = absurd fails

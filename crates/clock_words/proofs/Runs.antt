@@ -19,15 +19,18 @@ record IsSaid (words : List Text) (arguments : List Item) : Type 0 where
   ideal_is : value_of ideal_name arguments ≡ Some (flag_text ideal)
   is : run_in words ≡ run_by ideal (places_told most_ran arguments)
 
-said : (words : List Text) (arguments : List Item) → ideal_is_early words ≡ false → Some arguments ≡ option_map (with_flags run_row) (items_in run_row words) → IsSaid words arguments
+said : (words : List Text) (arguments : List Item) → ideal_is_early words ≡ false
+    → Some arguments ≡ option_map (with_flags run_row) (items_in run_row words) → IsSaid words arguments
 said words arguments late e = by_items (items_in run_row words) refl
   where
     by_items : (x : Option (List Item)) → items_in run_row words ≡ x → IsSaid words arguments
     by_items None f = absurd (let q : Some arguments ≡ None = e ∙ rw f refl in cc)
     by_items (Some items) f =
         let same : arguments ≡ with_flags run_row items = (let q : Some arguments ≡ Some (with_flags run_row items) = e ∙ rw f refl in cc) in
-        let number : value_of number_name arguments ≡ value_of number_name items = ap (value_of number_name) same ∙ option_value number_name run_row.flags items refl in
-        let count : value_of count_name arguments ≡ value_of count_name items = ap (value_of count_name) same ∙ option_value count_name run_row.flags items refl in
+        let number : value_of number_name arguments ≡ value_of number_name items = ap (value_of number_name) same
+            ∙ option_value number_name run_row.flags items refl in
+        let count : value_of count_name arguments ≡ value_of count_name items = ap (value_of count_name) same
+            ∙ option_value count_name run_row.flags items refl in
         record {
           ideal = is_given ideal_name items;
           ideal_is = ap (value_of ideal_name) same ∙ flag_value run_row ideal_name words items ((written run_row refl words items).0 f).parts refl refl refl;
@@ -35,8 +38,10 @@ said words arguments late e = by_items (items_in run_row words) refl
         }
 
 -- numbers and a flag that are said make the command
-pub is_run : (words : List Text) (arguments : List Item) → ideal_is_early words ≡ false → Some arguments ≡ option_map (with_flags run_row) (items_in run_row words)
-    → (numbers : ℕ × ℕ) → Some numbers ≡ places_told most_ran arguments → (ideal : Bool) → ((given : Bool) → value_of ideal_name arguments ≡ Some (flag_text given) → ideal ≡ given)
+pub is_run : (words : List Text) (arguments : List Item) → ideal_is_early words ≡ false
+    → Some arguments ≡ option_map (with_flags run_row) (items_in run_row words)
+    → (numbers : ℕ × ℕ) → Some numbers ≡ places_told most_ran arguments
+        → (ideal : Bool) → ((given : Bool) → value_of ideal_name arguments ≡ Some (flag_text given) → ideal ≡ given)
     → Some (command.Run numbers.0 numbers.1 ideal) ≡ run_in words
 is_run words arguments late e numbers told ideal given =
     let s = said words arguments late e in
@@ -45,7 +50,8 @@ is_run words arguments late e numbers told ideal given =
     ∙ sym s.is
 
 -- and where a number is missing or not in its range there is none
-pub is_no_run : (words : List Text) (arguments : List Item) → ideal_is_early words ≡ false → Some arguments ≡ option_map (with_flags run_row) (items_in run_row words)
+pub is_no_run : (words : List Text) (arguments : List Item) → ideal_is_early words ≡ false
+    → Some arguments ≡ option_map (with_flags run_row) (items_in run_row words)
     → None ≡ places_told most_ran arguments → None ≡ run_in words
 is_no_run words arguments late e none =
     let s = said words arguments late e in

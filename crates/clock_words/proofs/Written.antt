@@ -31,7 +31,8 @@ record Clear (row : Row) : Type 0 where
 
 clear : (row : Row) → is_clear row ≡ true → Clear row
 clear row e =
-    let p = and_true (list_all (λ n. not (has_equals n)) row.options && list_all (λ n. not (has_equals n)) row.flags) (list_all (λ n. not (has row.options n)) row.flags) e in
+    let p = and_true (list_all (λ n. not (has_equals n)) row.options && list_all (λ n. not (has_equals n)) row.flags)
+        (list_all (λ n. not (has row.options n)) row.flags) e in
     let q = and_true (list_all (λ n. not (has_equals n)) row.options) (list_all (λ n. not (has_equals n)) row.flags) p.0 in
     record {
       option = λ n h. all_pass has_equals row.options n q.0 h;
@@ -55,7 +56,8 @@ cut_none : (t : Text) → has_equals t ≡ false → before_first (λ b. b == 61
 cut_none [] e = refl
 cut_none (x ∷ xs) e = let p = or_false (x == 61) (has_equals xs) e in rw (p.0) (take_more (to_equals xs) x xs ∙ ap (λ ys. x ∷ ys) (cut_none xs p.1))
 
-cut_some : (t v : Text) → has_equals t ≡ false → (before_first (λ b. b == 61) (t ++ codes "=" ++ v) ≡ t) × (after_first (λ b. b == 61) (t ++ codes "=" ++ v) ≡ v) × (has_equals (t ++ codes "=" ++ v) ≡ true)
+cut_some : (t v : Text) → has_equals t ≡ false → (before_first (λ b. b == 61) (t ++ codes "=" ++ v) ≡ t)
+    × (after_first (λ b. b == 61) (t ++ codes "=" ++ v) ≡ v) × (has_equals (t ++ codes "=" ++ v) ≡ true)
 cut_some [] v e = (refl, refl, refl)
 cut_some (x ∷ xs) v e =
     let p = or_false (x == 61) (has_equals xs) e in
@@ -68,11 +70,13 @@ cut_is : (t : Text) → has_equals t ≡ true → t ≡ before_first (λ b. b ==
 cut_is [] e = absurd (true≢false (sym e))
 cut_is (x ∷ xs) e = by_equals (x == 61) refl (cut_is xs)
   where
-    by_equals : (b : Bool) → (x == 61) ≡ b → (has_equals xs ≡ true → xs ≡ before_first (λ b. b == 61) xs ++ codes "=" ++ after_first (λ b. b == 61) xs) → x ∷ xs ≡ before_first (λ b. b == 61) (x ∷ xs) ++ codes "=" ++ after_first (λ b. b == 61) (x ∷ xs)
+    by_equals : (b : Bool) → (x == 61) ≡ b → (has_equals xs ≡ true → xs ≡ before_first (λ b. b == 61) xs ++ codes "="
+        ++ after_first (λ b. b == 61) xs) → x ∷ xs ≡ before_first (λ b. b == 61) (x ∷ xs) ++ codes "=" ++ after_first (λ b. b == 61) (x ∷ xs)
     by_equals true f more = rw f (ap (λ k. k ∷ xs) (eqb-true x 61 f))
     by_equals false f more =
         let n = to_equals xs in
-        rw f (ap (λ ys. x ∷ ys) (more (sym (ap (λ b. b || has_equals xs) f) ∙ e)) ∙ sym (ap (λ k. k ++ codes "=" ++ drop (1 + n + 1) (x ∷ xs)) (take_more n x xs) ∙ ap (λ k. (x ∷ take n xs) ++ codes "=" ++ k) (drop_more n x xs)))
+        rw f (ap (λ ys. x ∷ ys) (more (sym (ap (λ b. b || has_equals xs) f) ∙ e))
+            ∙ sym (ap (λ k. k ++ codes "=" ++ drop (1 + n + 1) (x ∷ xs)) (take_more n x xs) ∙ ap (λ k. (x ∷ take n xs) ++ codes "=" ++ k) (drop_more n x xs)))
 
 -- ---- words `--name` and `--name=value`
 
@@ -103,7 +107,8 @@ named_words w n x e = by_dashes (bytes_eq (take 2 w) (codes "--")) refl
     by_dashes : (b : Bool) → bytes_eq (take 2 w) (codes "--") ≡ b → w ≡ codes "--" ++ elim x as (λ _. Text) [ None ↦ n | Some v ↦ n ++ codes "=" ++ v ]
     by_dashes true f =
         let cut : Some (cut_at_equals (drop 2 w)) ≡ Some (n, x) = sym (rw f refl) ∙ e in
-        sym (take-append-drop 2 w) ∙ ap (λ k. k ++ drop 2 w) ((bytes_eq-Decides (take 2 w) (codes "--")).0 f) ∙ ap (λ k. codes "--" ++ k) (uncut (drop 2 w) n x (cc))
+        sym (take-append-drop 2 w) ∙ ap (λ k. k ++ drop 2 w) ((bytes_eq-Decides (take 2 w) (codes "--")).0 f)
+            ∙ ap (λ k. codes "--" ++ k) (uncut (drop 2 w) n x (cc))
     by_dashes false f = absurd (let q : None ≡ Some (n, x) = sym (rw f refl) ∙ e in cc)
 
 dash_char : (ys : Text) → is_some (slice_get (chars (45 ∷ ys)) 0) ≡ true
@@ -161,13 +166,16 @@ record Adds (row : Row) (left words : List Text) (before items : List Item) : Ty
   once : AreOnce items
 
 abbrev Idles : Row → List Text → Type 0
-Idles row words = (left : List Text) (before items : List Item) → AreOnce before → items_from row words left None before ≡ Some items → Adds row left words before items
+Idles row words = (left : List Text) (before items : List Item) → AreOnce before → items_from row words left None before ≡ Some items
+    → Adds row left words before items
 
 abbrev Waits : Row → List Text → Type 0
-Waits row words = (name : Text) (left : List Text) (before items : List Item) → has row.options name ≡ true → AreOnce before → items_from row words left (Some name) before ≡ Some items → Adds row left (dashed name ∷ words) before items
+Waits row words = (name : Text) (left : List Text) (before items : List Item) → has row.options name ≡ true → AreOnce before
+    → items_from row words left (Some name) before ≡ Some items → Adds row left (dashed name ∷ words) before items
 
 -- one more item, and the parts that give it and what follows
-added : (row : Row) (words : List Text) → Idles row words → (left more whole : List Text) (n v : Text) (before items : List Item) → AreOnce before → with_item n v before (items_from row words left None) ≡ Some items
+added : (row : Row) (words : List Text) → Idles row words → (left more whole : List Text) (n v : Text) (before items : List Item) → AreOnce before
+    → with_item n v before (items_from row words left None) ≡ Some items
     → ((new : List Item) → AreParts row left words new → AreParts row more whole ((n, v) ∷ new)) → Adds row more whole before items
 added row words idles left more whole n v before items once e parts = by_given (is_given n before) refl
   where
@@ -178,7 +186,8 @@ added row words idles left more whole n v before items once e parts = by_given (
         record { new = (n, v) ∷ rest.new; is = rest.is ∙ append_assoc before ((n, v) ∷ []) rest.new; parts = parts rest.new rest.parts; once = rest.once }
 
 -- a value for the next place
-from_value : (row : Row) (w : Text) (words : List Text) → Idles row words → (left : List Text) (before items : List Item) → AreOnce before → named w ≡ None → items_from row (w ∷ words) left None before ≡ Some items → Adds row left (w ∷ words) before items
+from_value : (row : Row) (w : Text) (words : List Text) → Idles row words → (left : List Text) (before items : List Item) → AreOnce before
+    → named w ≡ None → items_from row (w ∷ words) left None before ≡ Some items → Adds row left (w ∷ words) before items
 unfolding items_from
 from_value row w words idles [] before items once n e = absurd (let q : None ≡ Some items = sym (rw n refl) ∙ e in cc)
 from_value row w words idles (p ∷ ps) before items once n e = by_value (is_value w) refl
@@ -187,18 +196,23 @@ from_value row w words idles (p ∷ ps) before items once n e = by_value (is_val
     by_value true f = added row words idles ps (p ∷ ps) (w ∷ words) p w before items once (sym (rw (n, f) refl) ∙ e) (λ new h. placed p w ps words new f h)
     by_value false f = absurd (let q : None ≡ Some items = sym (rw (n, f) refl) ∙ e in cc)
 
-from_name : (row : Row) (w : Text) (words : List Text) → Idles row words → Waits row words → (left : List Text) (before items : List Item) → AreOnce before → (n : Text) (x : Option Text) → named w ≡ Some (n, x) → items_from row (w ∷ words) left None before ≡ Some items → Adds row left (w ∷ words) before items
+from_name : (row : Row) (w : Text) (words : List Text) → Idles row words → Waits row words
+    → (left : List Text) (before items : List Item) → AreOnce before → (n : Text) (x : Option Text) → named w ≡ Some (n, x)
+    → items_from row (w ∷ words) left None before ≡ Some items → Adds row left (w ∷ words) before items
 unfolding items_from
 from_name row w words idles awaits left before items once n (Some v) m e = by_option (has row.options n) refl
   where
     by_option : (b : Bool) → has row.options n ≡ b → Adds row left (w ∷ words) before items
-    by_option true f = added row words idles left left (w ∷ words) n v before items once (sym (rw (m, f) refl) ∙ e) (λ new h. subst (λ (k : Text). AreParts row left (k ∷ words) ((n, v) ∷ new)) (sym (named_words w n (Some v) m)) (joined n v left words new f h))
+    by_option true f = added row words idles left left (w ∷ words) n v before items once (sym (rw (m, f) refl) ∙ e)
+        (λ new h. subst (λ (k : Text). AreParts row left (k ∷ words) ((n, v) ∷ new)) (sym (named_words w n (Some v) m)) (joined n v left words new f h))
     by_option false f = absurd (let q : None ≡ Some items = sym (rw (m, f) refl) ∙ e in cc)
 from_name row w words idles awaits left before items once n None m e = by_flag (has row.flags n) refl (has row.options n) refl
   where
     by_flag : (a : Bool) → has row.flags n ≡ a → (b : Bool) → has row.options n ≡ b → Adds row left (w ∷ words) before items
-    by_flag true f b g = added row words idles left left (w ∷ words) n (codes "true") before items once (sym (rw (m, f) refl) ∙ e) (λ new h. subst (λ (k : Text). AreParts row left (k ∷ words) ((n, codes "true") ∷ new)) (sym (named_words w n None m)) (flag n left words new f h))
-    by_flag false f true g = subst (λ (k : Text). Adds row left (k ∷ words) before items) (sym (named_words w n None m)) (awaits n left before items g once (sym (rw (m, f, g) refl) ∙ e))
+    by_flag true f b g = added row words idles left left (w ∷ words) n (codes "true") before items once (sym (rw (m, f) refl) ∙ e)
+        (λ new h. subst (λ (k : Text). AreParts row left (k ∷ words) ((n, codes "true") ∷ new)) (sym (named_words w n None m)) (flag n left words new f h))
+    by_flag false f true g = subst (λ (k : Text). Adds row left (k ∷ words) before items) (sym (named_words w n None m))
+        (awaits n left before items g once (sym (rw (m, f, g) refl) ∙ e))
     by_flag false f false g = absurd (let q : None ≡ Some items = sym (rw (m, f, g) refl) ∙ e in cc)
 
 -- a word that may stand anywhere, and one where an option waits for its value
@@ -214,25 +228,29 @@ unfolding items_from
 to_option row w ws idles name left before items h once e = by_value (is_value w) refl
   where
     by_value : (b : Bool) → is_value w ≡ b → Adds row left (dashed name ∷ w ∷ ws) before items
-    by_value true f = added row ws idles left left (dashed name ∷ w ∷ ws) name w before items once (sym (rw f refl) ∙ e) (λ new p. apart name w left ws new h f p)
+    by_value true f = added row ws idles left left (dashed name ∷ w ∷ ws) name w before items once (sym (rw f refl) ∙ e)
+        (λ new p. apart name w left ws new h f p)
     by_value false f = absurd (let q : None ≡ Some items = sym (rw f refl) ∙ e in cc)
 
 to_parts : (row : Row) (words : List Text) → Idles row words × Waits row words
 unfolding items_from
 to_parts row [] = (
-  λ left before items once e. record { new = []; is = (let q : items ≡ before = cc in q ∙ sym (append-nil before)); parts = nothing left; once = subst AreOnce (let q : before ≡ items = cc in q) once },
+  λ left before items once e. record { new = []; is = (let q : items ≡ before = cc in q ∙ sym (append-nil before)); parts = nothing left;
+      once = subst AreOnce (let q : before ≡ items = cc in q) once },
   λ name left before items h once e. absurd (let q : None ≡ Some items = e in cc),
 )
 to_parts row (w ∷ ws) = let more = to_parts row ws in (to_part row w ws more, to_option row w ws more.0)
 
 -- ---- from parts to words
 
-goes_on : (n v : Text) (before new : List Item) (rest : List Item → Option (List Item)) → AreOnce (before ++ (n, v) ∷ new) → ((more : List Item) → AreOnce (more ++ new) → rest more ≡ Some (more ++ new)) → with_item n v before rest ≡ Some (before ++ (n, v) ∷ new)
+goes_on : (n v : Text) (before new : List Item) (rest : List Item → Option (List Item)) → AreOnce (before ++ (n, v) ∷ new)
+    → ((more : List Item) → AreOnce (more ++ new) → rest more ≡ Some (more ++ new)) → with_item n v before rest ≡ Some (before ++ (n, v) ∷ new)
 goes_on n v before new rest once follows =
     let joins : (before ++ (n, v) ∷ []) ++ new ≡ before ++ (n, v) ∷ new = append_assoc before ((n, v) ∷ []) new in
     rw (once_before before new n v once) (follows (before ++ (n, v) ∷ []) (subst AreOnce (sym joins) once) ∙ ap (λ k. Some k) joins)
 
-from_parts : (row : Row) → Clear row → (left words : List Text) (new : List Item) → AreParts row left words new → (before : List Item) → AreOnce (before ++ new) → items_from row words left None before ≡ Some (before ++ new)
+from_parts : (row : Row) → Clear row → (left words : List Text) (new : List Item) → AreParts row left words new
+    → (before : List Item) → AreOnce (before ++ new) → items_from row words left None before ≡ Some (before ++ new)
 unfolding items_from
 from_parts row is left words new (nothing l) before once = ap (λ k. Some k) (sym (append-nil before))
 from_parts row is left words new (flag n l ws items h rest) before once =

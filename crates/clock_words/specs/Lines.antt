@@ -177,12 +177,17 @@ pub data IsLine : List Text → Command → Type 0 where
   stamps : IsLine (codes "stamps" ∷ []) (command.Report report.Stamps)
   rtt : IsLine (codes "rtt" ∷ []) (command.Report report.Rtt)
   estimate : IsLine (codes "estimate" ∷ []) (command.Report report.Estimate)
-  ticks : (words : List Text) (items : List Item) (n : ℕ) → AreWritten ticks_row words items → ticks_told items ≡ Some n → IsLine (codes "ticks" ∷ words) (command.Report (report.Ticks n))
-  replay : (words : List Text) (items : List Item) (n readers reads : ℕ) → AreWritten replay_row words items → ticks_told items ≡ Some n → readers_told items ≡ Some readers → reads_told items ≡ Some reads
+  ticks : (words : List Text) (items : List Item) (n : ℕ) → AreWritten ticks_row words items → ticks_told items ≡ Some n
+      → IsLine (codes "ticks" ∷ words) (command.Report (report.Ticks n))
+  replay : (words : List Text) (items : List Item) (n readers reads : ℕ) → AreWritten replay_row words items → ticks_told items ≡ Some n
+      → readers_told items ≡ Some readers → reads_told items ≡ Some reads
       → IsLine (codes "replay" ∷ words) (command.Report (report.Replay n readers reads (is_given back_name items) (is_given crank_name items)))
-  make : (first second : Text) (number count : ℕ) → number_within 0 (2 ^ 32 - 1) first ≡ Some number → number_within 1 most_made second ≡ Some count → IsLine (codes "make" ∷ first ∷ second ∷ []) (command.Make number count)
-  run : (first second : Text) (number count : ℕ) → number_within 0 (2 ^ 32 - 1) first ≡ Some number → number_within 1 most_ran second ≡ Some count → IsLine (codes "run" ∷ first ∷ second ∷ []) (command.Run number count false)
-  ideal_run : (first second : Text) (number count : ℕ) → number_within 0 (2 ^ 32 - 1) first ≡ Some number → number_within 1 most_ran second ≡ Some count → IsLine (codes "run" ∷ first ∷ second ∷ codes "--ideal" ∷ []) (command.Run number count true)
+  make : (first second : Text) (number count : ℕ) → number_within 0 (2 ^ 32 - 1) first ≡ Some number → number_within 1 most_made second ≡ Some count
+      → IsLine (codes "make" ∷ first ∷ second ∷ []) (command.Make number count)
+  run : (first second : Text) (number count : ℕ) → number_within 0 (2 ^ 32 - 1) first ≡ Some number → number_within 1 most_ran second ≡ Some count
+      → IsLine (codes "run" ∷ first ∷ second ∷ []) (command.Run number count false)
+  ideal_run : (first second : Text) (number count : ℕ) → number_within 0 (2 ^ 32 - 1) first ≡ Some number
+      → number_within 1 most_ran second ≡ Some count → IsLine (codes "run" ∷ first ∷ second ∷ codes "--ideal" ∷ []) (command.Run number count true)
 
 -- what is found is the command of a line, and nothing where words are no line
 abbrev pub IsCommandOf : List Text → Option Command → Type 0

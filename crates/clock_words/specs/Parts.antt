@@ -18,10 +18,14 @@ dashed_with name value = dashed name ++ codes "=" ++ value
 -- are left
 pub data AreParts (row : Row) : List Text → List Text → List Item → Type 0 where
   nothing : (left : List Text) → AreParts row left [] []
-  flag : (name : Text) (left words : List Text) (items : List Item) → has row.flags name ≡ true → AreParts row left words items → AreParts row left (dashed name ∷ words) ((name, codes "true") ∷ items)
-  apart : (name value : Text) (left words : List Text) (items : List Item) → has row.options name ≡ true → is_value value ≡ true → AreParts row left words items → AreParts row left (dashed name ∷ value ∷ words) ((name, value) ∷ items)
-  joined : (name value : Text) (left words : List Text) (items : List Item) → has row.options name ≡ true → AreParts row left words items → AreParts row left (dashed_with name value ∷ words) ((name, value) ∷ items)
-  placed : (name value : Text) (left words : List Text) (items : List Item) → is_value value ≡ true → AreParts row left words items → AreParts row (name ∷ left) (value ∷ words) ((name, value) ∷ items)
+  flag : (name : Text) (left words : List Text) (items : List Item) → has row.flags name ≡ true → AreParts row left words items
+      → AreParts row left (dashed name ∷ words) ((name, codes "true") ∷ items)
+  apart : (name value : Text) (left words : List Text) (items : List Item) → has row.options name ≡ true → is_value value ≡ true
+      → AreParts row left words items → AreParts row left (dashed name ∷ value ∷ words) ((name, value) ∷ items)
+  joined : (name value : Text) (left words : List Text) (items : List Item) → has row.options name ≡ true → AreParts row left words items
+      → AreParts row left (dashed_with name value ∷ words) ((name, value) ∷ items)
+  placed : (name value : Text) (left words : List Text) (items : List Item) → is_value value ≡ true → AreParts row left words items
+      → AreParts row (name ∷ left) (value ∷ words) ((name, value) ∷ items)
 
 -- each name is given at most once
 abbrev pub AreOnce : List Item → Type 0
@@ -38,7 +42,8 @@ abbrev pub has_equals : Text → Bool
 has_equals name = list_any (λ b. b == 61) name
 
 abbrev pub is_clear : Row → Bool
-is_clear row = list_all (λ n. not (has_equals n)) row.options && list_all (λ n. not (has_equals n)) row.flags && list_all (λ n. not (has row.options n)) row.flags
+is_clear row = list_all (λ n. not (has_equals n)) row.options && list_all (λ n. not (has_equals n)) row.flags
+    && list_all (λ n. not (has row.options n)) row.flags
 
 -- the items that words are for a row are those of the parts that they are written as
 abbrev pub IsReadByParts : Row → Type 0

@@ -27,16 +27,21 @@ pub record IsWithin (p : ℤ × ℕ) (count : ℕ) : Type 0 where
   pub high : p.0 ≤ℤ pos (2 ^ 97 + 2 ^ 45 * count)
   pub spread : p.1 ≤ 2 ^ 97 + 1 + 2 ^ 45 * count
 
-pub predicted-within : (rate : Rate) (t : Taken) (before now : ℕ) → rate.period < 2 ^ 45 → rate.high < 2 ^ 45 → before ≤ now → IsTakenBounded t before → IsWithin (predicted_by rate (now - before) t) now
+pub predicted-within : (rate : Rate) (t : Taken) (before now : ℕ) → rate.period < 2 ^ 45 → rate.high < 2 ^ 45 → before ≤ now
+    → IsTakenBounded t before → IsWithin (predicted_by rate (now - before) t) now
 predicted-within rate t before now period high order is =
     let time : rate.period * (now - before) ≤ 2 ^ 45 * (now - before) = mul-le-mul_right (now - before) (omega arith) in
     let spread : rate_error rate * (now - before) ≤ 2 ^ 45 * (now - before) = mul-le-mul_right (now - before) (omega arith) in
     record { low = omega (arith, ints, is.low); high = omega (arith, ints, is.high); spread = omega (arith, is.spread) }
 
-pub chosen-bounded : (i run : ℕ) (predicted : ℤ × ℕ) (mean : Option (ℤ × ℕ)) (count : ℕ) → run ≤ 32 → IsWithin predicted count → IfSome mean (λ m. (pos 0 ≤ℤ m.0) × (m.0 <ℤ pos (2 ^ 97))) → IfSome mean (λ m. m.1 ≤ 2 ^ 97 + 1) → IsTakenBounded (chosen i run predicted mean) count
+pub chosen-bounded : (i run : ℕ) (predicted : ℤ × ℕ) (mean : Option (ℤ × ℕ)) (count : ℕ) → run ≤ 32 → IsWithin predicted count
+    → IfSome mean (λ m. (pos 0 ≤ℤ m.0) × (m.0 <ℤ pos (2 ^ 97))) → IfSome mean (λ m. m.1 ≤ 2 ^ 97 + 1) → IsTakenBounded (chosen i run predicted mean) count
 chosen-bounded i run predicted None count few is time spread = record { low = is.low; high = is.high; spread = is.spread; run = few }
 chosen-bounded i run predicted (Some mean) count few is time spread = by_test (is_doubted i run predicted.0 mean.0) refl
   where
-    by_test : (b : Bool) → b ≡ is_doubted i run predicted.0 mean.0 → IsTakenBounded (cond {A = Taken} b (record { time = predicted.0; spread = predicted.1; predicted = true; run = run + 1 }) (record { time = mean.0; spread = mean.1; predicted = false; run = 0 })) count
-    by_test true e = record { low = is.low; high = is.high; spread = is.spread; run = (let few = (and_parts _ (nat_lt run 32) (sym e)).1 in grind (arith, nat_tests)) }
+    by_test : (b : Bool) → b ≡ is_doubted i run predicted.0 mean.0
+        → IsTakenBounded (cond {A = Taken} b (record { time = predicted.0; spread = predicted.1; predicted = true; run = run + 1 })
+        (record { time = mean.0; spread = mean.1; predicted = false; run = 0 })) count
+    by_test true e = record { low = is.low; high = is.high; spread = is.spread;
+        run = (let few = (and_parts _ (nat_lt run 32) (sym e)).1 in grind (arith, nat_tests)) }
     by_test false e = record { low = time.0; high = omega (arith, ints, time.1); spread = omega (arith, spread); run = omega arith }

@@ -15,7 +15,8 @@ use Rattle.ff_estimator.specs.Folds.{fold_of}
 use Rattle.ff_estimator.proofs.Sane.{rate-over}
 
 -- what is said of the first stamps stays, whatever stamps come behind them
-fulls-append : (freq : ℕ) (xs ys : List Stamp) (a n : ℕ) → a + n ≤ length xs → map (full_at freq (xs ++ ys)) (range_with_len a n) ≡ map (full_at freq xs) (range_with_len a n)
+fulls-append : (freq : ℕ) (xs ys : List Stamp) (a n : ℕ) → a + n ≤ length xs
+    → map (full_at freq (xs ++ ys)) (range_with_len a n) ≡ map (full_at freq xs) (range_with_len a n)
 fulls-append freq xs ys a zero within = refl
 fulls-append freq xs ys a (suc n) within = ap₂ (λ f fs. f ∷ fs) (full_at-append freq xs ys a (omega arith)) (fulls-append freq xs ys (a + 1) n (omega arith))
 
@@ -64,7 +65,8 @@ fold-counts freq all =
     ext_get_or 0 _ _ (omega arith) (λ i within. (
     let here : i < length all = omega arith in
     let d : Full = full_at freq all i in
-    get_or-map (λ (f : Full). f.est.update_ffcount) (fold_of freq all) i d 0 (omega arith) ∙ ap (λ (f : Full). f.est.update_ffcount) (get_or-fold_of freq all i d here) ∙ full-count freq all i
+    get_or-map (λ (f : Full). f.est.update_ffcount) (fold_of freq all) i d 0 (omega arith)
+        ∙ ap (λ (f : Full). f.est.update_ffcount) (get_or-fold_of freq all i d here) ∙ full-count freq all i
     ))
 
 pub fold-at : (freq : ℕ) (all : List Stamp) (i : ℕ) → i < length all → slice_get (fold_of freq all) i ≡ Some (full_at freq all i)

@@ -31,16 +31,19 @@ grains_le freq period seconds counts believed short =
     omega arith
 
 -- a stamp with a weight is recent
-since_le : (freq base now : ℕ) (s : Stamp) → 1000000 ≤ freq → IsPlausible freq s → 0 < weight_of (trip s - base) (now - s.tf) freq → counts_since now s ≤ 3201 * freq
+since_le : (freq base now : ℕ) (s : Stamp) → 1000000 ≤ freq → IsPlausible freq s → 0 < weight_of (trip s - base) (now - s.tf) freq
+    → counts_since now s ≤ 3201 * freq
 since_le freq base now s low sound some = omega (arith, counts_since_le now s, weight_of_recent (trip s - base) (now - s.tf) freq low some)
 
 -- what the counts since then take, of a stamp with a weight
-pub since_below : (freq base now : ℕ) (rate : Rate) (s : Stamp) → IsPlausible freq s → IsRate freq rate → 1000000 ≤ freq → 0 < weight_of (trip s - base) (now - s.tf) freq → rate.period * counts_since now s < 2 ^ 97
+pub since_below : (freq base now : ℕ) (rate : Rate) (s : Stamp) → IsPlausible freq s → IsRate freq rate → 1000000 ≤ freq
+    → 0 < weight_of (trip s - base) (now - s.tf) freq → rate.period * counts_since now s < 2 ^ 97
 since_below freq base now rate s sound order low some =
     omega (arith, grains_le freq rate.period 3201 (counts_since now s) (omega arith) (since_le freq base now s low sound some))
 
 -- twice the spread, of a stamp with a weight
-pub spread_below : (freq base now : ℕ) (rate : Rate) (s : Stamp) → IsPlausible freq s → IsRate freq rate → 1000000 ≤ freq → 0 < weight_of (trip s - base) (now - s.tf) freq → trip s * rate.high + rate_error rate * counts_since now s < 2 ^ 98
+pub spread_below : (freq base now : ℕ) (rate : Rate) (s : Stamp) → IsPlausible freq s → IsRate freq rate → 1000000 ≤ freq
+    → 0 < weight_of (trip s - base) (now - s.tf) freq → trip s * rate.high + rate_error rate * counts_since now s < 2 ^ 98
 spread_below freq base now rate s sound order low some =
     let round : rate.high * trip s ≤ 1 * 2 ^ 65 = grains_le freq rate.high 1 (trip s) (omega arith) (omega arith) in
     let drift = grains_le freq (rate_error rate) 3201 (counts_since now s) (omega arith) (since_le freq base now s low sound some) in

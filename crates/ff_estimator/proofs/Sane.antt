@@ -61,7 +61,8 @@ pub accepted-take : (freq n : ℕ) (xs : List Stamp) → AreAccepted freq xs →
 accepted-take freq n xs are = record {
   timed = All-take IsInRange n xs are.timed;
   sound = All-take (IsPlausible freq) n xs are.sound;
-  follow = λ i j d before here. rw (get_or-take n xs i d (omega (arith, length-take n xs)), get_or-take n xs j d (omega (arith, length-take n xs))) (are.follow i j d before (omega (arith, length-take n xs)));
+  follow = λ i j d before here. rw (get_or-take n xs i d (omega (arith, length-take n xs)), get_or-take n xs j d (omega (arith, length-take n xs)))
+      (are.follow i j d before (omega (arith, length-take n xs)));
 }
 
 -- the rates at accepted stamps are among those that are believed
@@ -91,11 +92,13 @@ weighed : (weight x m : ℕ) → (0 < weight → x ≤ m) → weight * x ≤ wei
 weighed zero x m most = omega arith
 weighed (suc w) x m most = mul-le-mul_left (suc w) (most (omega arith))
 
-pub term-time : (freq base now : ℕ) (rate : Rate) (s : Stamp) → 1000000 ≤ freq → IsInRange s → IsPlausible freq s → IsRate freq rate → (let t = term_of freq base rate now s in t.weight * t.twice_time ≤ t.weight * (2 ^ 98 - 1))
+pub term-time : (freq base now : ℕ) (rate : Rate) (s : Stamp) → 1000000 ≤ freq → IsInRange s → IsPlausible freq s → IsRate freq rate
+    → (let t = term_of freq base rate now s in t.weight * t.twice_time ≤ t.weight * (2 ^ 98 - 1))
 term-time freq base now rate s low timed sound is =
     weighed _ _ (2 ^ 98 - 1) (λ some. omega (arith, time-below s.tb timed.tb, time-below s.te timed.te, since_below freq base now rate s sound is low some))
 
-pub term-spread : (freq base now : ℕ) (rate : Rate) (s : Stamp) → 1000000 ≤ freq → IsPlausible freq s → IsRate freq rate → (let t = term_of freq base rate now s in t.weight * t.twice_spread ≤ t.weight * (2 ^ 98 - 1))
+pub term-spread : (freq base now : ℕ) (rate : Rate) (s : Stamp) → 1000000 ≤ freq → IsPlausible freq s → IsRate freq rate
+    → (let t = term_of freq base rate now s in t.weight * t.twice_spread ≤ t.weight * (2 ^ 98 - 1))
 term-spread freq base now rate s low sound is = weighed _ _ (2 ^ 98 - 1) (λ some. omega (arith, spread_below freq base now rate s sound is low some))
 
 -- so are the sums of such terms
@@ -133,13 +136,19 @@ mean-at freq all i low are =
     let term : Stamp → Term = term_of freq base rate now in
     let Timely : Term → Type 0 = λ t. t.weight * t.twice_time ≤ t.weight * (2 ^ 98 - 1) in
     let Spread : Term → Type 0 = λ t. t.weight * t.twice_spread ≤ t.weight * (2 ^ 98 - 1) in
-    let among : (P : Stamp → Type 0) → All P all → All P (slice_range all from (i + 1)) = λ P each. All-take P (i + 1 - from) (drop from all) (All-drop P from all each) in
+    let among : (P : Stamp → Type 0) → All P all → All P (slice_range all from (i + 1)) = λ P each. All-take P (i + 1 - from) (drop from all)
+        (All-drop P from all each) in
     mean-of (terms_at freq all i)
-    (sum-below (λ t. t.weight * t.twice_time) (terms_at freq all i) (All-map Timely term (slice_range all from (i + 1)) (among (λ s. Timely (term s)) (λ k d here. term-time freq base now rate (get_or all k d) low (are.timed k d here) (are.sound k d here) is))))
-    (sum-below (λ t. t.weight * t.twice_spread) (terms_at freq all i) (All-map Spread term (slice_range all from (i + 1)) (among (λ s. Spread (term s)) (λ k d here. term-spread freq base now rate (get_or all k d) low (are.sound k d here) is))))
+    (sum-below (λ t. t.weight * t.twice_time) (terms_at freq all i)
+        (All-map Timely term (slice_range all from (i + 1)) (among (λ s. Timely (term s))
+        (λ k d here. term-time freq base now rate (get_or all k d) low (are.timed k d here) (are.sound k d here) is))))
+    (sum-below (λ t. t.weight * t.twice_spread) (terms_at freq all i)
+        (All-map Spread term (slice_range all from (i + 1)) (among (λ s. Spread (term s))
+        (λ k d here. term-spread freq base now rate (get_or all k d) low (are.sound k d here) is))))
 
 -- what is taken before a stamp is within the bounds of a daemon's
-taken-bounded : (freq : ℕ) (all : List Stamp) (i : ℕ) → 1000000 ≤ freq → AreAccepted freq all → i ≤ length all → IsTakenBounded (taken_before freq all i) (count_before all i)
+taken-bounded : (freq : ℕ) (all : List Stamp) (i : ℕ) → 1000000 ≤ freq → AreAccepted freq all → i ≤ length all
+    → IsTakenBounded (taken_before freq all i) (count_before all i)
 unfolding taken_before
 taken-bounded freq all zero low are here = record { low = omega (arith, ints); high = omega (arith, ints); spread = omega arith; run = omega arith }
 taken-bounded freq all (suc i) low are here =
@@ -149,10 +158,13 @@ taken-bounded freq all (suc i) low are here =
     let is : IsRate freq rate = rate-over 1024 freq all i are in
     let most = highest-bounded freq low in
     let mean = mean-at freq all i low are in
-    let predicted = predicted-within rate t (count_before all i) (count_at all i) (omega (arith, is.high, is.highest, most)) (omega (arith, is.highest, most)) (count-before freq all i are (omega arith)) before in
-    chosen-bounded i t.run (predicted_by rate (count_at all i - count_before all i) t) (mean_at freq all i) (count_at all i) before.run predicted mean.time mean.spread
+    let predicted = predicted-within rate t (count_before all i) (count_at all i) (omega (arith, is.high, is.highest, most))
+        (omega (arith, is.highest, most)) (count-before freq all i are (omega arith)) before in
+    chosen-bounded i t.run (predicted_by rate (count_at all i - count_before all i) t) (mean_at freq all i) (count_at all i) before.run predicted
+        mean.time mean.spread
 
-pub full-sane : (freq : ℕ) (all : List Stamp) (i : ℕ) → 1000000 ≤ freq → AreAccepted freq all → i < length all → is_sane_estimate (full_at freq all i).est ≡ true
+pub full-sane : (freq : ℕ) (all : List Stamp) (i : ℕ) → 1000000 ≤ freq → AreAccepted freq all → i < length all
+    → is_sane_estimate (full_at freq all i).est ≡ true
 unfolding full_at
 full-sane freq all i low are here =
     let is : IsRate freq (global_rate freq all i) = rate-over 1024 freq all i are in
@@ -160,5 +172,6 @@ full-sane freq all i low are here =
     let update = count-below freq all i are here in
     let taken : IsTakenBounded (taken_at freq all i) (count_at all i) = taken-bounded freq all (suc i) low are (omega arith) in
     let time = number_of-of_grains (taken_at freq all i).time in
-    let sane : IsSane (full_at freq all i).est = record { update = update; period = omega (arith, is.high, is.highest, most); low = rw time taken.low; high = rw time (omega (arith, ints, taken.high, update)) } in
+    let sane : IsSane (full_at freq all i).est = record { update = update; period = omega (arith, is.high, is.highest, most);
+        low = rw time taken.low; high = rw time (omega (arith, ints, taken.high, update)) } in
     sane-from (full_at freq all i).est sane (omega arith) (inl refl)

@@ -21,7 +21,8 @@ same_sum : (f : Stamp → ℕ) (stamps : List Stamp) (s : Stamp) → f s ≡ 0 �
 same_sum f stamps s none = omega (arith, sum_by_push f stamps s)
 
 -- one of weight 0 changes no sum
-pub weightless_more : (freq base now : ℕ) (w : Weighed) (stamps : List Stamp) (s : Stamp) → weight_at freq base now s ≡ 0 → AreSums freq base now w stamps → AreSums freq base now w (stamps ++ s ∷ [])
+pub weightless_more : (freq base now : ℕ) (w : Weighed) (stamps : List Stamp) (s : Stamp) → weight_at freq base now s ≡ 0
+    → AreSums freq base now w stamps → AreSums freq base now w (stamps ++ s ∷ [])
 weightless_more freq base now w stamps s h was = record {
   adds = was.adds ∙ same_sum (λ u. cond (nat_lt 0 (weight_at freq base now u)) 1 0) stamps s (rw h);
   weights = was.weights ∙ same_sum (weight_at freq base now) stamps s h;
@@ -36,7 +37,8 @@ sum_map g f [] = refl
 sum_map g f (s ∷ stamps) = sum_by-cons g (f s) (map f stamps) ∙ ap (λ n. g (f s) + n) (sum_map g f stamps) ∙ sym (sum_by-cons (λ t. g (f t)) s stamps)
 
 -- a sum of two products, each by a number that is the same in all
-sum_parts : (h a b : Stamp → ℕ) (q p : ℕ) → ((s : Stamp) → h s ≡ a s * q + p * b s) → (stamps : List Stamp) → sum_by h stamps ≡ sum_by a stamps * q + p * sum_by b stamps
+sum_parts : (h a b : Stamp → ℕ) (q p : ℕ) → ((s : Stamp) → h s ≡ a s * q + p * b s) → (stamps : List Stamp) → sum_by h stamps ≡ sum_by a stamps * q
+    + p * sum_by b stamps
 sum_parts h a b q p each [] = omega arith
 sum_parts h a b q p each (s ∷ stamps) =
     let first : sum_by a (s ∷ stamps) * q ≡ a s * q + sum_by a stamps * q = ap (λ n. n * q) (sum_by-cons a s stamps) ∙ add-mul (a s) (sum_by a stamps) q in
@@ -67,16 +69,19 @@ module _ (freq base now : ℕ) (rate : Rate) where
 
   times_at : (w : Weighed) (stamps : List Stamp) → AreSums freq base now w stamps → sum_by time_at stamps ≡ w.times + rate.period * w.counts
   times_at w stamps was =
-      let parts = sum_parts time_at (λ s. weight_at freq base now s * server_times s) (λ s. weight_at freq base now s * counts_since now s) 1 rate.period (λ s. times_part (weight_at freq base now s) (server_times s) rate.period (counts_since now s)) stamps in
+      let parts = sum_parts time_at (λ s. weight_at freq base now s * server_times s) (λ s. weight_at freq base now s * counts_since now s) 1
+          rate.period (λ s. times_part (weight_at freq base now s) (server_times s) rate.period (counts_since now s)) stamps in
       omega (arith, parts, was.times, ap (λ n. rate.period * n) was.counts)
 
   spreads_at : (w : Weighed) (stamps : List Stamp) → AreSums freq base now w stamps → sum_by spread_at stamps ≡ w.trips * rate.high + rate_error rate * w.counts
   spreads_at w stamps was =
-      let parts = sum_parts spread_at (λ s. weight_at freq base now s * trip s) (λ s. weight_at freq base now s * counts_since now s) rate.high (rate_error rate) (λ s. spreads_part (weight_at freq base now s) (trip s) rate.high (rate_error rate) (counts_since now s)) stamps in
+      let parts = sum_parts spread_at (λ s. weight_at freq base now s * trip s) (λ s. weight_at freq base now s * counts_since now s) rate.high
+          (rate_error rate) (λ s. spreads_part (weight_at freq base now s) (trip s) rate.high (rate_error rate) (counts_since now s)) stamps in
       omega (arith, parts, ap (λ n. n * rate.high) was.trips, ap (λ n. rate_error rate * n) was.counts)
 
   -- the sums at a rate are those of the terms
-  pub terms_at_rate : (w : Weighed) (stamps : List Stamp) → AreSums freq base now w stamps → means.StandsFor (at_rate w rate) (map (term_of freq base rate now) stamps)
+  pub terms_at_rate : (w : Weighed) (stamps : List Stamp) → AreSums freq base now w stamps
+      → means.StandsFor (at_rate w rate) (map (term_of freq base rate now) stamps)
   terms_at_rate w stamps was =
       let f = term_of freq base rate now in
       record {
@@ -87,10 +92,12 @@ module _ (freq base now : ℕ) (rate : Rate) where
       }
 
   -- they are small enough
-  pub terms_bounded : (w : Weighed) (stamps : List Stamp) → AreSums freq base now w stamps → IsBounded w → 1000000 ≤ freq → IsRate freq rate → All IsInRange stamps → All (IsPlausible freq) stamps → AreAtRate w rate
+  pub terms_bounded : (w : Weighed) (stamps : List Stamp) → AreSums freq base now w stamps → IsBounded w → 1000000 ≤ freq → IsRate freq rate
+      → All IsInRange stamps → All (IsPlausible freq) stamps → AreAtRate w rate
   terms_bounded w stamps was bounded low order timed sound =
       let weight = weight_at freq base now in
-      let times = sum_at_most time_at weight (2 ^ 98 - 1) stamps (λ i d within. term-time freq base now rate _ low (timed i d within) (sound i d within) order) in
+      let times = sum_at_most time_at weight (2 ^ 98 - 1) stamps (λ i d within. term-time freq base now rate _ low (timed i d within)
+          (sound i d within) order) in
       let spreads = sum_at_most spread_at weight (2 ^ 98 - 1) stamps (λ i d within. term-spread freq base now rate _ low (sound i d within) order) in
       record {
         few = bounded.few;
@@ -100,7 +107,8 @@ module _ (freq base now : ℕ) (rate : Rate) where
       }
 
 -- a stamp of so long a round trip has no weight
-pub long_weightless : (freq base now from longest : ℕ) (s : Stamp) → ((excess age : ℕ) → from ≤ excess → weight_of excess age freq ≡ 0) → longest ≡ min (base + from) (2 ^ 64 - 1) → longest ≤ trip s → IsInRange s → weight_at freq base now s ≡ 0
+pub long_weightless : (freq base now from longest : ℕ) (s : Stamp) → ((excess age : ℕ) → from ≤ excess → weight_of excess age freq ≡ 0) → longest
+    ≡ min (base + from) (2 ^ 64 - 1) → longest ≤ trip s → IsInRange s → weight_at freq base now s ≡ 0
 long_weightless freq base now from longest s none sum long timed = none (trip s - base) (now - s.tf) (omega arith)
 
 -- one more of the stamps

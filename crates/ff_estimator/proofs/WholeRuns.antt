@@ -10,5 +10,6 @@ run_cost : (costs : List FeedCost) (old last : Kept) → ArePaid old costs last 
 run_cost [] old last paid = omega (arith, ap credit paid)
 run_cost (cost ∷ costs) old last paid = omega (arith, paid.1, sum_by-cons raised cost costs, run_cost costs paid.0 last paid.2)
 
-pub steps-of-new : (freq : ℕ) (costs : List FeedCost) (new last : Kept) → StandsFor new freq [] → ArePaid new costs last → sum_by raised costs ≤ 12 * length costs
+pub steps-of-new : (freq : ℕ) (costs : List FeedCost) (new last : Kept) → StandsFor new freq [] → ArePaid new costs last
+    → sum_by raised costs ≤ 12 * length costs
 steps-of-new freq costs new last none paid = omega (arith, run_cost costs new last paid, credit-none new.window freq none.window)

@@ -13,7 +13,8 @@ count_at all i = slice_index (map (λ s. s.tf) all) i
 -- what the stamps up to stamp i say of the time at its reply: those since its level began, of the
 -- last 32
 abbrev pub terms_at : ℕ → List Stamp → ℕ → List Term
-terms_at freq all i = map (term_of freq (base_at freq all i).base (rate_in_use freq all i) (count_at all i)) (slice_range all (max (base_at freq all i).start (i - 31)) (i + 1))
+terms_at freq all i = map (term_of freq (base_at freq all i).base (rate_in_use freq all i) (count_at all i))
+    (slice_range all (max (base_at freq all i).start (i - 31)) (i + 1))
 
 -- the mean time at stamp i and its spread, in grains, where the stamps have any weight
 unfoldable pub mean_at : ℕ → List Stamp → ℕ → Option (ℤ × ℕ)

@@ -12,7 +12,8 @@ use Rattle.ff_hands.specs.declared.hands.Order.{Order}
 use Rattle.ff_hands.proofs.Winding.{cold-bounded, wind-bounded, order_of-wound, count-wound}
 
 -- what the cold hands have and each windup keeps, each tick has
-pub by-ticks : (P : Hands → Type 0) (ticks : List Hands) → IsJournal ticks → P cold → ((h : Hands) (count : ℕ) (o : Order) → P h → fits h count o ≡ true → P (wind_of h count o)) → (n : ℕ) (h : Hands) → slice_get ticks n ≡ Some h → P h
+pub by-ticks : (P : Hands → Type 0) (ticks : List Hands) → IsJournal ticks → P cold
+    → ((h : Hands) (count : ℕ) (o : Order) → P h → fits h count o ≡ true → P (wind_of h count o)) → (n : ℕ) (h : Hands) → slice_get ticks n ≡ Some h → P h
 by-ticks P ticks is first keeps zero h here = let same : cold ≡ h = (let e = sym is.first ∙ here in cc) in subst P same first
 by-ticks P ticks is first keeps (suc n) h here =
     let within : n < length ticks = (let w = slice_get_within ticks (suc n) h here in omega arith) in
@@ -39,7 +40,8 @@ get-push-last [] y = refl
 get-push-last (x ∷ xs) y = get-push-last xs y
 
 -- a tick that follows the last one goes on with a journal
-pub journal-push : (ticks : List Hands) (h next : Hands) → IsJournal ticks → slice_get ticks (length ticks - 1) ≡ Some h → Follows h next → IsJournal (ticks ++ next ∷ [])
+pub journal-push : (ticks : List Hands) (h next : Hands) → IsJournal ticks → slice_get ticks (length ticks - 1) ≡ Some h → Follows h next
+    → IsJournal (ticks ++ next ∷ [])
 journal-push ticks h next is last follows =
     let some : 0 < length ticks = slice_get_within ticks 0 cold is.first in
     record {
@@ -47,7 +49,8 @@ journal-push ticks h next is last follows =
       next = λ n a b at then. goes n a b at then (cases_eq (n + 1) (length ticks));
     }
   where
-    goes : (n : ℕ) (a b : Hands) → slice_get (ticks ++ next ∷ []) n ≡ Some a → slice_get (ticks ++ next ∷ []) (n + 1) ≡ Some b → (n + 1 ≡ length ticks) ⊎ (n + 1 ≡ length ticks → ⊥) → Follows a b
+    goes : (n : ℕ) (a b : Hands) → slice_get (ticks ++ next ∷ []) n ≡ Some a → slice_get (ticks ++ next ∷ []) (n + 1) ≡ Some b
+        → (n + 1 ≡ length ticks) ⊎ (n + 1 ≡ length ticks → ⊥) → Follows a b
     goes n a b at then (inl end) =
         let here : slice_get ticks n ≡ Some a = sym (get-push-left ticks next n (omega arith)) ∙ at in
         let place : n ≡ length ticks - 1 = omega arith in
@@ -73,7 +76,8 @@ sound-wound h count o is f =
     record {
       ticks = is.ticks ++ next ∷ [];
       journal = journal-push is.ticks h next is.journal is.last (wound-follows h count o f);
-      last = (let e : length (is.ticks ++ next ∷ []) - 1 ≡ length is.ticks = omega (arith, length_push is.ticks next) in ap (slice_get (is.ticks ++ next ∷ [])) e ∙ get-push-last is.ticks next);
+      last = (let e : length (is.ticks ++ next ∷ []) - 1 ≡ length is.ticks = omega (arith, length_push is.ticks next) in
+          ap (slice_get (is.ticks ++ next ∷ [])) e ∙ get-push-last is.ticks next);
     }
 
 -- the cold hands are a journal by themselves

@@ -75,11 +75,13 @@ journal-rises ticks is = IsNonDecreasingBy-from_all_adjacent (λ (h : Hands). h.
 -- but for resets and jumps the uninterrupted clock goes on where it is
 pub follows-line : (h next : Hands) → Follows h next → next.how ≢ how.Reset → next.how ≢ how.Jump → number_of next.lerp ≡ moved_lerp h next.count
 follows-line h next follows not_reset not_jump =
-    let line = line-goes_on h next.count (order_of next) (subst (λ t. t.how ≢ how.Reset) follows.wound not_reset) (subst (λ t. t.how ≢ how.Jump) follows.wound not_jump) in
+    let line = line-goes_on h next.count (order_of next) (subst (λ t. t.how ≢ how.Reset) follows.wound not_reset)
+        (subst (λ t. t.how ≢ how.Jump) follows.wound not_jump) in
     ap (λ (t : Hands). number_of t.lerp) follows.wound ∙ line
 
 -- but for resets the uptime goes on
-pub follows-uptime : (h next : Hands) → Follows h next → next.how ≢ how.Reset → number_of next.lerp -ℤ number_of next.boot ≡ moved_lerp h next.count -ℤ number_of h.boot
+pub follows-uptime : (h next : Hands) → Follows h next → next.how ≢ how.Reset
+    → number_of next.lerp -ℤ number_of next.boot ≡ moved_lerp h next.count -ℤ number_of h.boot
 follows-uptime h next follows not_reset =
     let line = uptime-goes_on h next.count (order_of next) (subst (λ t. t.how ≢ how.Reset) follows.wound not_reset) in
     ap (λ (t : Hands). number_of t.lerp -ℤ number_of t.boot) follows.wound ∙ line

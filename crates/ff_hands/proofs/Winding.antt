@@ -45,7 +45,8 @@ record IsTimeOf (e : Estimate) (count : ℕ) : Type 0 where
 
 timed : (e : Estimate) (count : ℕ) → IsSane e → IsTimeOf e count
 timed e count sane =
-    let most : (count - e.update_ffcount) * e.period ≤ (count - e.update_ffcount) * 2 ^ 46 = mul-le-mul_left (count - e.update_ffcount) (omega (arith, sane.period)) in
+    let most : (count - e.update_ffcount) * e.period ≤ (count - e.update_ffcount) * 2 ^ 46 = mul-le-mul_left (count - e.update_ffcount)
+        (omega (arith, sane.period)) in
     record { low = omega (arith, ints, sane.low); high = omega (arith, ints, sane.high); since = omega (arith, ints); not_before = omega (arith, ints) }
 
 -- the clocks moved on to a count
@@ -91,13 +92,15 @@ plain-bounded h count is on =
     }
 
 -- the uninterrupted clock goes on behind a new estimate
-take_on-bounded : (h : Hands) (count : ℕ) (e : Estimate) → IsBounded h → GoesOn h count → IsSane e → e.update_ffcount ≤ count → h.est.update_ffcount < e.update_ffcount → IsBounded (take_on h count e)
+take_on-bounded : (h : Hands) (count : ℕ) (e : Estimate) → IsBounded h → GoesOn h count → IsSane e → e.update_ffcount ≤ count
+    → h.est.update_ffcount < e.update_ffcount → IsBounded (take_on h count e)
 take_on-bounded h count e is on sane update newer =
     let m = moves h count is on in
     let t = timed e count sane in
     let time = number_of-of_grains (time_of e count) in
     let lerp = number_of-of_grains (moved_lerp h count) in
-    let slope = sloped (int_lt (moved_lerp h count) (time_of e count)) (unsigned_abs (time_of e count -ℤ moved_lerp h count)) (e.update_ffcount - h.est.update_ffcount) e.period (omega arith) in
+    let slope = sloped (int_lt (moved_lerp h count) (time_of e count)) (unsigned_abs (time_of e count -ℤ moved_lerp h count))
+        (e.update_ffcount - h.est.update_ffcount) e.period (omega arith) in
     record {
       count = on.most;
       update = update;
@@ -113,7 +116,8 @@ take_on-bounded h count e is on sane update newer =
     }
 
 -- the boot time moves with the uninterrupted clock
-take_jump-bounded : (h : Hands) (count : ℕ) (e : Estimate) → IsBounded h → GoesOn h count → IsSane e → e.update_ffcount ≤ count → IsBounded (take_jump h count e)
+take_jump-bounded : (h : Hands) (count : ℕ) (e : Estimate) → IsBounded h → GoesOn h count → IsSane e → e.update_ffcount ≤ count
+    → IsBounded (take_jump h count e)
 take_jump-bounded h count e is on sane update =
     let m = moves h count is on in
     let t = timed e count sane in
@@ -152,7 +156,8 @@ reset-bounded count e most sane update =
       uptime_high = rw time t.since;
     }
 
-take-bounded : (h : Hands) (count : ℕ) (e : Estimate) → IsBounded h → GoesOn h count → IsSane e → e.update_ffcount ≤ count → h.est.update_ffcount < e.update_ffcount → IsBounded (take h count e)
+take-bounded : (h : Hands) (count : ℕ) (e : Estimate) → IsBounded h → GoesOn h count → IsSane e → e.update_ffcount ≤ count
+    → h.est.update_ffcount < e.update_ffcount → IsBounded (take h count e)
 take-bounded h count e is on sane update newer = by_test (jumps h e)
   where
     by_test : (b : Bool) → IsBounded (cond b (take_jump h count e) (take_on h count e))
@@ -164,7 +169,8 @@ unfolding wind_of
 wind-bounded h count order.Plain is f = plain-bounded h count is (fits-on h count order.Plain f)
 wind-bounded h count (order.Take e) is f =
     let in_time = and_parts _ _ (fits-in_time h count (order.Take e) f) in
-    take-bounded h count e is (fits-on h count (order.Take e) f) (sane-is e (fits-sane h count (order.Take e) f)) (leb-true _ _ in_time.0) (ltb-true _ _ in_time.1)
+    take-bounded h count e is (fits-on h count (order.Take e) f) (sane-is e (fits-sane h count (order.Take e) f)) (leb-true _ _ in_time.0)
+        (ltb-true _ _ in_time.1)
 wind-bounded h count (order.Reset e) is f =
     let on = fits-on h count (order.Reset e) f in
     reset-bounded count e on.most (sane-is e (fits-sane h count (order.Reset e) f)) (leb-true _ _ (fits-in_time h count (order.Reset e) f))
@@ -185,24 +191,29 @@ cold-bounded = record {
 }
 
 -- but for resets and jumps the uninterrupted clock goes on where it is
-pub line-goes_on : (h : Hands) (count : ℕ) (o : Order) → (wind_of h count o).how ≢ how.Reset → (wind_of h count o).how ≢ how.Jump → number_of (wind_of h count o).lerp ≡ moved_lerp h count
+pub line-goes_on : (h : Hands) (count : ℕ) (o : Order) → (wind_of h count o).how ≢ how.Reset → (wind_of h count o).how ≢ how.Jump
+    → number_of (wind_of h count o).lerp ≡ moved_lerp h count
 unfolding wind_of
 line-goes_on h count order.Plain not_reset not_jump = number_of-of_grains (moved_lerp h count)
 line-goes_on h count (order.Take e) not_reset not_jump = by_test (jumps h e) not_jump
   where
-    by_test : (b : Bool) → (cond b (take_jump h count e) (take_on h count e)).how ≢ how.Jump → number_of (cond b (take_jump h count e) (take_on h count e)).lerp ≡ moved_lerp h count
+    by_test : (b : Bool) → (cond b (take_jump h count e) (take_on h count e)).how ≢ how.Jump
+        → number_of (cond b (take_jump h count e) (take_on h count e)).lerp ≡ moved_lerp h count
     by_test true not = absurd (not refl)
     by_test false not = number_of-of_grains (moved_lerp h count)
 line-goes_on h count (order.Reset e) not_reset not_jump = absurd (not_reset refl)
 
 -- but for resets the uptime goes on where it is
-pub uptime-goes_on : (h : Hands) (count : ℕ) (o : Order) → (wind_of h count o).how ≢ how.Reset → number_of (wind_of h count o).lerp -ℤ number_of (wind_of h count o).boot ≡ moved_lerp h count -ℤ number_of h.boot
+pub uptime-goes_on : (h : Hands) (count : ℕ) (o : Order) → (wind_of h count o).how ≢ how.Reset
+    → number_of (wind_of h count o).lerp -ℤ number_of (wind_of h count o).boot ≡ moved_lerp h count -ℤ number_of h.boot
 unfolding wind_of
 uptime-goes_on h count order.Plain not_reset = rw (number_of-of_grains (moved_lerp h count))
 uptime-goes_on h count (order.Take e) not_reset = by_test (jumps h e)
   where
-    by_test : (b : Bool) → number_of (cond b (take_jump h count e) (take_on h count e)).lerp -ℤ number_of (cond b (take_jump h count e) (take_on h count e)).boot ≡ moved_lerp h count -ℤ number_of h.boot
-    by_test true = rw (number_of-of_grains (time_of e count), number_of-of_grains (number_of h.boot +ℤ (time_of e count -ℤ moved_lerp h count))) (omega (arith, ints))
+    by_test : (b : Bool) → number_of (cond b (take_jump h count e) (take_on h count e)).lerp -ℤ number_of
+        (cond b (take_jump h count e) (take_on h count e)).boot ≡ moved_lerp h count -ℤ number_of h.boot
+    by_test true = rw (number_of-of_grains (time_of e count), number_of-of_grains (number_of h.boot +ℤ (time_of e count -ℤ moved_lerp h count)))
+        (omega (arith, ints))
     by_test false = rw (number_of-of_grains (moved_lerp h count))
 uptime-goes_on h count (order.Reset e) not_reset = absurd (not_reset refl)
 

@@ -10,7 +10,8 @@ use Rattle.ideal_world.specs.declared.deviations.Deviation.{Deviation}
 
 -- the farthest of the ticks before one, and this one
 module _ (w : World) (ticks : List Hands) (end : ℕ) (h : Hands) (there : slice_get ticks end ≡ Some h) where
-  by_place : (P : Hands → Type 0) → ((n : ℕ) (g : Hands) → 2 ≤ n → n < end → slice_get ticks n ≡ Some g → P g) → P h → (n : ℕ) (g : Hands) → 2 ≤ n → n < end + 1 → slice_get ticks n ≡ Some g → P g
+  by_place : (P : Hands → Type 0) → ((n : ℕ) (g : Hands) → 2 ≤ n → n < end → slice_get ticks n ≡ Some g → P g) → P h → (n : ℕ) (g : Hands) → 2 ≤ n
+      → n < end + 1 → slice_get ticks n ≡ Some g → P g
   by_place P earlier this n g late early at =
       let split : (b : Bool) → ltb n end ≡ b → P g =
       elim [
@@ -35,7 +36,8 @@ module _ (w : World) (ticks : List Hands) (end : ℕ) (h : Hands) (there : slice
   }
 
   -- else it is this one
-  pub comes-farthest : (f : Deviation) → 2 ≤ end → IsFarthestBefore w ticks end f → f.distance < off_by w h → IsFarthestBefore w ticks (end + 1) (deviating w end h)
+  pub comes-farthest : (f : Deviation) → 2 ≤ end → IsFarthestBefore w ticks end f → f.distance < off_by w h
+      → IsFarthestBefore w ticks (end + 1) (deviating w end h)
   comes-farthest f behind is more = record {
     behind = behind;
     before = omega arith;

@@ -13,9 +13,12 @@ use Rattle.world_laws.proofs.PlansGoBy.{readings-true}
 use Rattle.ideal_world.specs.MadeTruth.{MadeEstimatesAreTrue, MadeTicksAreTrue}
 
 pub made-estimates : MadeEstimatesAreTrue
-made-estimates number count most = estimates-true frequency made_world (made_stamps number count) (omega arith) (omega arith) made-fits (made-accepted number count most) (made-lie number count)
+made-estimates number count most = estimates-true frequency made_world (made_stamps number count) (omega arith) (omega arith) made-fits
+    (made-accepted number count most) (made-lie number count)
 
 pub made-ticks : MadeTicksAreTrue
 made-ticks number count between beside ticks most is =
     let made : List Stamp = made_stamps number count in
-    readings-true frequency between beside made_world (map item.Stamp made) ticks (omega arith) (omega arith) made-fits (stamps-are-items frequency made (made-accepted number count most)) (subst (All (LiesIn made_world)) (sym (stamps-back made)) (made-lie number count)) is
+    readings-true frequency between beside made_world (map item.Stamp made) ticks (omega arith) (omega arith) made-fits
+        (stamps-are-items frequency made (made-accepted number count most))
+        (subst (All (LiesIn made_world)) (sym (stamps-back made)) (made-lie number count)) is

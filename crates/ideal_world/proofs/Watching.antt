@@ -23,16 +23,19 @@ use Rattle.world_laws.proofs.EstimatesHold.{spread-holds}
 use Rattle.ideal_world.specs.Watching.{Holds}
 
 -- one more stamp that lies in the world, if it is accepted
-with-lie : (w : World) (items : List Item) (s : Stamp) (r : Result (Unit {0}) Refused) → LiesIn w s → All (LiesIn w) (stamps_of items) → All (LiesIn w) (stamps_of (accepted_with items (item.Stamp s) r))
+with-lie : (w : World) (items : List Item) (s : Stamp) (r : Result (Unit {0}) Refused) → LiesIn w s → All (LiesIn w) (stamps_of items)
+    → All (LiesIn w) (stamps_of (accepted_with items (item.Stamp s) r))
 with-lie w items s (Ok o) lies lie = subst (All (LiesIn w)) (sym (stamps-push items (item.Stamp s))) (All-push (LiesIn w) (stamps_of items) s lie lies)
 with-lie w items s (Err why) lies lie = lie
 
-with-accepted : (freq : ℕ) (items : List Item) (s : Stamp) (r : Result (Unit {0}) Refused) → accept_item freq items (item.Stamp s) ≡ r → IsInRange s → AreAcceptedItems freq items → AreAcceptedItems freq (accepted_with items (item.Stamp s) r)
+with-accepted : (freq : ℕ) (items : List Item) (s : Stamp) (r : Result (Unit {0}) Refused) → accept_item freq items (item.Stamp s) ≡ r → IsInRange s
+    → AreAcceptedItems freq items → AreAcceptedItems freq (accepted_with items (item.Stamp s) r)
 with-accepted freq items s (Ok o) e timed are = item-push freq items (item.Stamp s) are timed e
 with-accepted freq items s (Err why) e timed are = are
 
 pub holds-next : (old new : daemons.Kept) (w : World) (freq : ℕ) (s : Stamp) → IsInRange s → LiesIn w s → Holds old w freq
-    → ((freq : ℕ) (items : List Item) → daemons.StandsFor old freq items → daemons.StandsFor new freq (accepted_with items (item.Stamp s) (accept_item freq items (item.Stamp s)))) → Holds new w freq
+    → ((freq : ℕ) (items : List Item) → daemons.StandsFor old freq items
+        → daemons.StandsFor new freq (accepted_with items (item.Stamp s) (accept_item freq items (item.Stamp s)))) → Holds new w freq
 holds-next old new w freq s timed lies holds stands =
     let items : List Item = holds.items in
     let r : Result (Unit {0}) Refused = accept_item freq items (item.Stamp s) in
@@ -51,16 +54,20 @@ unfolding full_at
 update-is freq all s = count_at-push all s
 
 -- of the time nothing is changed by what is told of leap seconds
-behind-true : (w : World) (freq : ℕ) (items : List Item) (s : Stamp) → distance w (number_of (full_at freq (stamps_of items ++ s ∷ []) (length (stamps_of items))).est.update_time) s.tf ≤ (full_at freq (stamps_of items ++ s ∷ []) (length (stamps_of items))).spread
+behind-true : (w : World) (freq : ℕ) (items : List Item) (s : Stamp) → distance w
+    (number_of (full_at freq (stamps_of items ++ s ∷ []) (length (stamps_of items))).est.update_time) s.tf ≤
+    (full_at freq (stamps_of items ++ s ∷ []) (length (stamps_of items))).spread
     → distance w (number_of (full_behind freq items s).est.update_time) s.tf ≤ (full_behind freq items s).spread
 unfolding full_behind
 behind-true w freq items s h = h
 
 pub estimate-true : (old : daemons.Kept) (w : World) (freq : ℕ) (s : Stamp) (full : Full) → IsInRange s → LiesIn w s → Holds old w freq
-    → ((freq : ℕ) (items : List Item) → daemons.StandsFor old freq items → fed.Estimate full ≡ fed_of freq items s) → distance w (number_of full.est.update_time) s.tf ≤ full.spread
+    → ((freq : ℕ) (items : List Item) → daemons.StandsFor old freq items → fed.Estimate full ≡ fed_of freq items s) → distance w
+        (number_of full.est.update_time) s.tf ≤ full.spread
 estimate-true old w freq s full timed lies holds answers = by_test (accept_item freq holds.items (item.Stamp s)) refl (answers freq holds.items holds.stands)
   where
-    by_test : (r : Result (Unit {0}) Refused) → accept_item freq holds.items (item.Stamp s) ≡ r → fed.Estimate full ≡ fed_by r (full_behind freq holds.items s) → distance w (number_of full.est.update_time) s.tf ≤ full.spread
+    by_test : (r : Result (Unit {0}) Refused) → accept_item freq holds.items (item.Stamp s) ≡ r
+        → fed.Estimate full ≡ fed_by r (full_behind freq holds.items s) → distance w (number_of full.est.update_time) s.tf ≤ full.spread
     by_test (Err why) e answer = absurd (cc)
     by_test (Ok o) e answer =
         let items : List Item = holds.items in
@@ -70,5 +77,7 @@ estimate-true old w freq s full timed lies holds answers = by_test (accept_item 
         let next : AreAcceptedItems freq (items ++ item.Stamp s ∷ []) = item-push freq items (item.Stamp s) holds.accepted timed e in
         let accepted : AreAccepted freq all' = subst (AreAccepted freq) (stamps-push items (item.Stamp s)) next.stamps in
         let within = spread-holds freq w all' holds.fits accepted (All-push (LiesIn w) all s holds.lie lies) (length all) (omega (arith, length_push all s)) in
-        let at : distance w (number_of (full_at freq all' (length all)).est.update_time) s.tf ≤ (full_at freq all' (length all)).spread = subst (λ n. distance w (number_of (full_at freq all' (length all)).est.update_time) n ≤ (full_at freq all' (length all)).spread) (update-is freq all s) within in
+        let at : distance w (number_of (full_at freq all' (length all)).est.update_time) s.tf ≤ (full_at freq all' (length all)).spread = subst
+            (λ n. distance w (number_of (full_at freq all' (length all)).est.update_time) n ≤ (full_at freq all' (length all)).spread)
+            (update-is freq all s) within in
         subst (λ (f : Full). distance w (number_of f.est.update_time) s.tf ≤ f.spread) same (behind-true w freq items s at)

@@ -37,4 +37,5 @@ IsFarthest w ticks f = IsFarthestBefore w ticks (length ticks) f
 
 -- where the ticks are true, and it is not marked unsynchronised, it is off by at most its bound
 abbrev pub DeviationsAreBounded : Type 0
-DeviationsAreBounded = (w : World) (ticks : List Hands) (f : Deviation) (h : Hands) → AreTrueTicks w ticks → IsFarthest w ticks f → slice_get ticks f.tick ≡ Some h → h.kstatus.unsync ≡ false → f.distance ≤ f.bound
+DeviationsAreBounded = (w : World) (ticks : List Hands) (f : Deviation) (h : Hands) → AreTrueTicks w ticks → IsFarthest w ticks f
+    → slice_get ticks f.tick ≡ Some h → h.kstatus.unsync ≡ false → f.distance ≤ f.bound

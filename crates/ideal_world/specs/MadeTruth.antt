@@ -17,4 +17,5 @@ MadeEstimatesAreTrue = (number count : ℕ) → count ≤ 16384 → All (IsTrueE
 
 -- so are the ticks of a journal of their plan, also where the counter was raised beside the driver
 abbrev pub MadeTicksAreTrue : Type 0
-MadeTicksAreTrue = (number count between : ℕ) (beside : Bool) (ticks : List Hands) → count ≤ 16384 → IsJournalOf beside (plan_of frequency (events_of frequency (map item.Stamp (made_stamps number count))) between) ticks → AreTrueTicks made_world ticks
+MadeTicksAreTrue = (number count between : ℕ) (beside : Bool) (ticks : List Hands) → count ≤ 16384
+    → IsJournalOf beside (plan_of frequency (events_of frequency (map item.Stamp (made_stamps number count))) between) ticks → AreTrueTicks made_world ticks

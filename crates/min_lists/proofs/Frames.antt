@@ -17,7 +17,8 @@ module _ (trip trip' : ℕ → ℕ) where
         first = λ j l h. omega (arith, same j l (omega (arith, f.high)), f.first j l h);
       }
 
-  pub linked_same : (before after : ℕ → ℕ) (from to head : ℕ) → ((j : ℕ) → from ≤ j → j < to → trip' j ≡ trip j) → IsLinked trip before after from to head → IsLinked trip' before after from to head
+  pub linked_same : (before after : ℕ → ℕ) (from to head : ℕ) → ((j : ℕ) → from ≤ j → j < to → trip' j ≡ trip j) → IsLinked trip before after from to
+      head → IsLinked trip' before after from to head
   linked_same before after from to head same f = record {
     ends = f.ends;
     least = λ l. first_least_same from to head same (f.least l);
@@ -31,7 +32,8 @@ module _ (trip trip' : ℕ → ℕ) where
   }
 
 -- the same of nodes whose links in this list stay
-pub list_same : (ns ns' : List Node) (p from to head : ℕ) → ((i : ℕ) → link_at ns' p i ≡ link_at ns p i) → ((i : ℕ) → from ≤ i → i < to → trip_at ns' i ≡ trip_at ns i)
+pub list_same : (ns ns' : List Node) (p from to head : ℕ) → ((i : ℕ) → link_at ns' p i ≡ link_at ns p i) → ((i : ℕ) → from ≤ i → i < to
+    → trip_at ns' i ≡ trip_at ns i)
     → IsLinked (trip_at ns) (before_at ns p) (after_at ns p) from to head → IsLinked (trip_at ns') (before_at ns' p) (after_at ns' p) from to head
 list_same ns ns' p from to head links trips is =
     let befores : before_at ns' p ≡ before_at ns p = fun_ext (λ i. ap (λ l. l.before) (links i)) in

@@ -18,7 +18,8 @@ stays_least trip start to i b f l h le = record {
 }
 
 -- behind an index b of the list that isn't above it, where all after b are
-pub linked_behind : (trip before after before' after' : ℕ → ℕ) (from to head b : ℕ) → IsLinked trip before after from to head → from ≤ b → IsBefore trip from to (b + 1)
+pub linked_behind : (trip before after before' after' : ℕ → ℕ) (from to head b : ℕ) → IsLinked trip before after from to head → from ≤ b
+    → IsBefore trip from to (b + 1)
     → before' to ≡ b + 1 → ((i : ℕ) → from ≤ i → i < to → before' i ≡ before i)
     → after' b ≡ to → ((i : ℕ) → from ≤ i → i < to → i ≢ b → after' i ≡ after i)
     → IsLinked trip before' after' from (to + 1) head
@@ -40,6 +41,7 @@ linked_behind trip before after before' after' from to head b old l last before_
               | inr f ↦ absurd (omega (arith, last.above i m (omega arith) (omega arith), low to (omega arith) (omega arith)))
             ] in
             let was = old.afters i m (omega arith) (λ j n k. low j n (omega arith)) in
-            subst (IsFirstMinimum trip (i + 1) (to + 1)) (sym (afters i m (omega arith) other)) (stays_least trip (i + 1) to (after i) b was (omega arith) below le)
+            subst (IsFirstMinimum trip (i + 1) (to + 1)) (sym (afters i m (omega arith) other))
+                (stays_least trip (i + 1) to (after i) b was (omega arith) below le)
       ];
     }

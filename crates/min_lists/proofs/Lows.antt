@@ -37,7 +37,8 @@ module _ (p : ℕ → Bool) (trip : ℕ → ℕ) where
   ]
 
 -- where the round trip at `from` is low up to b, it is low up to i
-stays_low : (trip : ℕ → ℕ) (from i b : ℕ) → IsBefore trip from i b → from < b → list_all (nat_le (trip from)) (map trip (range_with_len (from + 1) (b - (from + 1)))) ≡ true
+stays_low : (trip : ℕ → ℕ) (from i b : ℕ) → IsBefore trip from i b → from < b
+    → list_all (nat_le (trip from)) (map trip (range_with_len (from + 1) (b - (from + 1)))) ≡ true
     → (j : ℕ) → b ≤ j → j ≤ i → trip from ≤ trip j
 stays_low trip from i b f l low j m k =
     let p : ℕ → Bool = nat_le (trip from) in
@@ -55,7 +56,8 @@ stays_low trip from i b f l low j m k =
     ]
 
 -- an index behind those before it: those that are above it are no longer low, and it is
-lows_one_more : (trip : ℕ → ℕ) (n from i b : ℕ) → from + n ≡ i → IsBefore trip from i b → lows (map trip (range_with_len from (n + 1))) ≡ 1 + lows (map trip (range_with_len from (b - from)))
+lows_one_more : (trip : ℕ → ℕ) (n from i b : ℕ) → from + n ≡ i → IsBefore trip from i b → lows (map trip (range_with_len from (n + 1))) ≡ 1
+    + lows (map trip (range_with_len from (b - from)))
 unfolding lows
 lows_one_more trip zero from i b e f = let none : b - from ≡ 0 = omega (arith, f.within) in rw none
 lows_one_more trip (suc n) from i b e f =
@@ -69,7 +71,8 @@ lows_one_more trip (suc n) from i b e f =
     rw more (elim (cases_lt from b) [
       | inl l ↦
           let some : b - from ≡ suc (b - (from + 1)) = omega arith in
-          let same = same_pass p trip (from + 1) (b - (from + 1)) (n + 1) (omega (arith, f.within)) (λ low j m k. le-leb (trip from) (trip j) (stays_low trip from i b f l low j (omega arith) (omega arith))) in
+          let same = same_pass p trip (from + 1) (b - (from + 1)) (n + 1) (omega (arith, f.within))
+              (λ low j m k. le-leb (trip from) (trip j) (stays_low trip from i b f l low j (omega arith) (omega arith))) in
           rw (some, same, later) (omega arith)
       | inr l ↦
           let none : b - from ≡ 0 = omega arith in
@@ -79,7 +82,8 @@ lows_one_more trip (suc n) from i b e f =
     ])
 
 -- the same of a window up to the index i
-pub lows_before : (trip : ℕ → ℕ) (from i b : ℕ) → from ≤ i → IsBefore trip from i b → lows (map trip (range_with_len from (i + 1 - from))) ≡ 1 + lows (map trip (range_with_len from (b - from)))
+pub lows_before : (trip : ℕ → ℕ) (from i b : ℕ) → from ≤ i → IsBefore trip from i b → lows (map trip (range_with_len from (i + 1 - from))) ≡ 1
+    + lows (map trip (range_with_len from (b - from)))
 lows_before trip from i b l f =
     let long : i + 1 - from ≡ i - from + 1 = omega arith in
     rw long (lows_one_more trip (i - from) from i b (omega arith) f)
@@ -90,5 +94,6 @@ pub lows_next : (trip trip' : ℕ → ℕ) (from to b steps steps' : ℕ) → ((
     → steps' + lows (map trip' (range_with_len from (to + 1 - from))) ≤ steps + lows (map trip (range_with_len from (to - from))) + 2
 lows_next trip trip' from to b steps steps' same l f cost =
     let one = lows_before trip from to b l f in
-    let all : map trip' (range_with_len from (to + 1 - from)) ≡ map trip (range_with_len from (to + 1 - from)) = ap (λ (t : ℕ → ℕ). map t (range_with_len from (to + 1 - from))) (fun_ext same) in
+    let all : map trip' (range_with_len from (to + 1 - from)) ≡ map trip (range_with_len from (to + 1 - from)) = ap
+        (λ (t : ℕ → ℕ). map t (range_with_len from (to + 1 - from))) (fun_ext same) in
     rw (all, one) (omega arith)

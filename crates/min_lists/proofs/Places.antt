@@ -48,7 +48,9 @@ module _ (ws : List Window) (p : ℕ) (w : Window) (room : p < length ws) where
   window_set_other q ne = get_or-set_other ws p q w no_window ne
 
   -- where the list at this place is one, and those at the others stay
-  pub lists_set : (ns ns' : List Node) (count : ℕ) → AreLists ns count ws → IsList ns' count p w → ((which : Which) → place which ≢ p → IsList ns count (place which) (window_at ws (place which)) → IsList ns' count (place which) (window_at ws (place which))) → AreLists ns' count (set ws p w)
+  pub lists_set : (ns ns' : List Node) (count : ℕ) → AreLists ns count ws → IsList ns' count p w
+      → ((which : Which) → place which ≢ p → IsList ns count (place which) (window_at ws (place which))
+      → IsList ns' count (place which) (window_at ws (place which))) → AreLists ns' count (set ws p w)
   lists_set ns ns' count old here others = record {
     few = old.few;
     each = λ which. elim (cases_eq (place which) p) [
@@ -58,7 +60,8 @@ module _ (ws : List Window) (p : ℕ) (w : Window) (room : p < length ws) where
   }
 
   -- where the next index entered the window at this place
-  pub lists_enter : (ns ns' : List Node) (count : ℕ) → AreLists ns count ws → Enters ns ns' p (window_at ws p) w → (which : Which) → p ≡ place which → (window_at ws p).to < count → count ≤ (window_at ws p).to + 1024 → AreLists ns' count (set ws p w)
+  pub lists_enter : (ns ns' : List Node) (count : ℕ) → AreLists ns count ws → Enters ns ns' p (window_at ws p) w → (which : Which) → p ≡ place which
+      → (window_at ws p).to < count → count ≤ (window_at ws p).to + 1024 → AreLists ns' count (set ws p w)
   lists_enter ns ns' count old enters which at added kept =
       let was : IsList ns count p (window_at ws p) = subst (λ q. IsList ns count q (window_at ws q)) (sym at) (old.each which) in
       lists_set ns ns' count old (record {
@@ -71,5 +74,6 @@ module _ (ws : List Window) (p : ℕ) (w : Window) (room : p < length ws) where
       }) (λ other ne is. record {
         entered = is.entered;
         kept = is.kept;
-        linked = let v = window_at ws (place other) in list_same ns ns' (place other) v.from v.to v.head (λ i. enters.other_lists (place other) i ne) (λ i _ _. enters.trips i) is.linked;
+        linked = let v = window_at ws (place other) in list_same ns ns' (place other) v.from v.to v.head (λ i. enters.other_lists (place other) i ne)
+            (λ i _ _. enters.trips i) is.linked;
       })

@@ -15,7 +15,8 @@ use Rattle.min_lists.specs.Nodes.{trip_at}
 use Rattle.min_lists.proofs.Frames.{first_least_same}
 
 -- where round trips are the same at each index of a window
-pub same_between : (trip trip' : ℕ → ℕ) (a n : ℕ) → ((i : ℕ) → a ≤ i → i < a + n → trip' i ≡ trip i) → map trip' (range_with_len a n) ≡ map trip (range_with_len a n)
+pub same_between : (trip trip' : ℕ → ℕ) (a n : ℕ) → ((i : ℕ) → a ≤ i → i < a + n → trip' i ≡ trip i) → map trip' (range_with_len a n) ≡ map trip
+    (range_with_len a n)
 same_between trip trip' a zero same = refl
 same_between trip trip' a (suc n) same =
     let here : trip' a ≡ trip a = same a (omega arith) (omega arith) in
@@ -30,7 +31,8 @@ drop_between trip a (suc n) (suc k) =
     rw (e, f) (drop_between trip (a + 1) n k)
 
 -- the round trips in a window whose indices are kept
-pub trips_in_kept : (ns : List Node) (count : ℕ) (ws : List Window) (from to : ℕ) → to ≤ count → (from < to → count ≤ from + 1024) → trips_in (kept_in ns count ws) (record { from = from; to = to }) ≡ trips_between ns from to
+pub trips_in_kept : (ns : List Node) (count : ℕ) (ws : List Window) (from to : ℕ) → to ≤ count → (from < to → count ≤ from + 1024)
+    → trips_in (kept_in ns count ws) (record { from = from; to = to }) ≡ trips_between ns from to
 trips_in_kept ns count ws from to le kept =
     let trip : ℕ → ℕ = trip_at ns in
     let lo : ℕ = count - 1024 in
@@ -55,11 +57,13 @@ window_kept ns count ws WideNew = refl
 window_kept ns count ws NearOld = refl
 window_kept ns count ws NearNew = refl
 
-pub window_of : (ns : List Node) (count : ℕ) (ws : List Window) (k : Kept) (which : Which) (p : ℕ) → kept_in ns count ws ≡ k → p ≡ place which → window k which ≡ span (window_at ws p)
+pub window_of : (ns : List Node) (count : ℕ) (ws : List Window) (k : Kept) (which : Which) (p : ℕ) → kept_in ns count ws ≡ k → p ≡ place which
+    → window k which ≡ span (window_at ws p)
 window_of ns count ws k which p view at = rw (← view, at) (window_kept ns count ws which)
 
 -- the credit of a window, by its nodes
-pub credit_in_kept : (ns : List Node) (count : ℕ) (ws : List Window) (which : Which) → AreLists ns count ws → credit_in (kept_in ns count ws) which ≡ lows (trips_between ns (window_at ws (place which)).from (window_at ws (place which)).to)
+pub credit_in_kept : (ns : List Node) (count : ℕ) (ws : List Window) (which : Which) → AreLists ns count ws
+    → credit_in (kept_in ns count ws) which ≡ lows (trips_between ns (window_at ws (place which)).from (window_at ws (place which)).to)
 unfolding credit_in
 credit_in_kept ns count ws which lists =
     let each = lists.each which in
@@ -67,7 +71,8 @@ credit_in_kept ns count ws which lists =
     ∙ ap lows (trips_in_kept ns count ws (window_at ws (place which)).from (window_at ws (place which)).to each.entered each.kept)
 
 -- a kept round trip is that of its index among all
-pub trip_of_all : (ns : List Node) (count : ℕ) (ws : List Window) (all : List ℕ) (i : ℕ) → StandsFor (kept_in ns count ws) all → count ≤ i + 1024 → i < count → slice_index all i ≡ trip_at ns i
+pub trip_of_all : (ns : List Node) (count : ℕ) (ws : List Window) (all : List ℕ) (i : ℕ) → StandsFor (kept_in ns count ws) all → count ≤ i + 1024
+    → i < count → slice_index all i ≡ trip_at ns i
 trip_of_all ns count ws all i stands kept h =
     let lo : ℕ = count - 1024 in
     let e : length all - 1024 + (i - lo) ≡ i = omega (arith, stands.count) in
@@ -87,13 +92,15 @@ trips_with ns ns' count rtt here others =
     let longer : length (xs ++ rtt ∷ []) ≡ count - lo + 1 = omega (arith, length-append xs (rtt ∷ [])) in
     same_lists _ _ (omega (arith, length-map-range_with_len (trip_at ns') lo' (count + 1 - lo'), length-drop d (xs ++ rtt ∷ []))) (λ k e h.
     let within : k < count + 1 - lo' = omega (arith, length-map-range_with_len (trip_at ns') lo' (count + 1 - lo')) in
-    let new : get_or (trips_between ns' lo' (count + 1)) k e ≡ trip_at ns' (lo' + k) = get_or-map-range_with_len (trip_at ns') lo' (count + 1 - lo') k (lo' + k) e within refl in
+    let new : get_or (trips_between ns' lo' (count + 1)) k e ≡ trip_at ns' (lo' + k) = get_or-map-range_with_len (trip_at ns') lo' (count + 1 - lo')
+        k (lo' + k) e within refl in
     let old : get_or (last_trips (xs ++ rtt ∷ [])) k e ≡ get_or (xs ++ rtt ∷ []) (d + k) e = get_or-drop d (xs ++ rtt ∷ []) k e in
     elim (cases_lt (d + k) (length xs)) [
       | inl l ↦
           let apart : (lo' + k) % 1024 ≢ count % 1024 = omega arith in
           new ∙ others (lo' + k) apart
-          ∙ sym (old ∙ get_or_append_left xs (rtt ∷ []) e (d + k) l ∙ get_or-map-range_with_len (trip_at ns) lo (count - lo) (d + k) (lo' + k) e (omega arith) (omega arith))
+          ∙ sym (old ∙ get_or_append_left xs (rtt ∷ []) e (d + k) l ∙ get_or-map-range_with_len (trip_at ns) lo (count - lo) (d + k) (lo' + k) e
+              (omega arith) (omega arith))
       | inr m ↦
           let last : lo' + k ≡ count = omega arith in
           new ∙ ap (trip_at ns') last ∙ here ∙ sym (old ∙ get_or_push xs rtt e (d + k) (omega arith))

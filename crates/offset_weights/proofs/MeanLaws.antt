@@ -10,7 +10,8 @@ pub mean_of_none : (terms : List Term) → weights_of terms ≡ 0 → mean_of te
 unfolding mean_of
 mean_of_none terms h = rw (eq-eqb _ _ h)
 
-pub mean_of_some : (terms : List Term) → 0 < weights_of terms → mean_of terms ≡ Some (pos (times_of terms / (2 * weights_of terms)), div_ceil (spreads_of terms) (2 * weights_of terms) + 1)
+pub mean_of_some : (terms : List Term) → 0 < weights_of terms
+    → mean_of terms ≡ Some (pos (times_of terms / (2 * weights_of terms)), div_ceil (spreads_of terms) (2 * weights_of terms) + 1)
 unfolding mean_of
 mean_of_some terms h = rw (ne_eqb (weights_of terms) 0 (λ e. omega arith))
 

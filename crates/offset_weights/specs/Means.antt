@@ -21,7 +21,8 @@ spreads_of terms = sum_by (λ t. t.weight * t.twice_spread) terms
 
 -- the mean time, rounded down, and the mean spread, rounded up and one more; none without weight
 unfoldable pub mean_of : List Term → Option (ℤ × ℕ)
-mean_of terms = if weights_of terms == 0 then None else Some (pos (times_of terms / (2 * weights_of terms)), div_ceil (spreads_of terms) (2 * weights_of terms) + 1)
+mean_of terms = if weights_of terms == 0 then None else Some
+    (pos (times_of terms / (2 * weights_of terms)), div_ceil (spreads_of terms) (2 * weights_of terms) + 1)
 
 -- a time and its spread, as numbers of grains
 abbrev pub numbers_of : Option (Bintime × ℕ) → Option (ℤ × ℕ)

@@ -4,7 +4,8 @@ use Rattle.ff_grain.specs.Scales.{trip_scale}
 
 -- the weights of the rows from 0 on
 abbrev pub table : List ℕ
-table = 65536 ∷ 64520 ∷ 61565 ∷ 56939 ∷ 51039 ∷ 44344 ∷ 37341 ∷ 30477 ∷ 24109 ∷ 18485 ∷ 13737 ∷ 9894 ∷ 6907 ∷ 4674 ∷ 3065 ∷ 1948 ∷ 1200 ∷ 717 ∷ 415 ∷ 233 ∷ 127 ∷ 67 ∷ 34 ∷ 17 ∷ 8 ∷ []
+table = 65536 ∷ 64520 ∷ 61565 ∷ 56939 ∷ 51039 ∷ 44344 ∷ 37341 ∷ 30477 ∷ 24109 ∷ 18485 ∷ 13737 ∷ 9894 ∷ 6907 ∷ 4674 ∷ 3065 ∷ 1948 ∷ 1200 ∷ 717 ∷ 415
+    ∷ 233 ∷ 127 ∷ 67 ∷ 34 ∷ 17 ∷ 8 ∷ []
 
 -- the counts by which a round trip is above the least one, and one more for each 2^23 counts of age
 abbrev pub aged_excess : ℕ → ℕ → ℕ

@@ -20,7 +20,8 @@ pub record Settles {E : Type 0} (IsFault : Result ℕ E → Type 0) (answer : Re
   pub rose : OnErr result (now ≡ counted_on before)
 
 -- a pull: one read, whose error alone is a fault
-pub record ReaderGives {R E : Type 0} (left : R → Option (List ℕ)) (reads : R → List ℕ → Result ℕ E → List ℕ → R → Type 0) (old : R) (room : List ℕ) (faults faults' : ℕ) (result : Result ℕ Failed) (room' : List ℕ) (new : R) : Type 0 where
+pub record ReaderGives {R E : Type 0} (left : R → Option (List ℕ)) (reads : R → List ℕ → Result ℕ E → List ℕ → R → Type 0) (old : R) (room : List ℕ)
+    (faults faults' : ℕ) (result : Result ℕ Failed) (room' : List ℕ) (new : R) : Type 0 where
   pub answer : Result ℕ E
   pub read : reads old room answer room' new
   pub settled : Settles IsErr answer faults faults' result
@@ -31,7 +32,8 @@ pub record ReaderGives {R E : Type 0} (left : R → Option (List ℕ)) (reads : 
 -- which took bytes; and what is left then
 pub data Taken {W E : Type 0} (writes : W → List ℕ → Result ℕ E → W → Type 0) (old : W) (piece : List ℕ) : List ℕ → W → Type 0 where
   no_write : Taken writes old piece piece old
-  one_more : (rest : List ℕ) (n : ℕ) (mid new : W) → Taken writes old piece rest mid → 0 < n → writes mid rest (Ok n) new → Taken writes old piece (drop n rest) new
+  one_more : (rest : List ℕ) (n : ℕ) (mid new : W) → Taken writes old piece rest mid → 0 < n → writes mid rest (Ok n) new
+      → Taken writes old piece (drop n rest) new
 
 -- then one more write of what was left, which failed or took nothing
 pub record Halted {W E : Type 0} (writes : W → List ℕ → Result ℕ E → W → Type 0) (old : W) (piece : List ℕ) (new : W) : Type 0 where
@@ -44,7 +46,8 @@ pub record Halted {W E : Type 0} (writes : W → List ℕ → Result ℕ E → W
   pub stop : TakesNothing answer
 
 -- a push: writes until the whole piece is taken, or one fails or takes nothing
-pub record WriterGives {W E : Type 0} (written : W → Option (List ℕ)) (writes : W → List ℕ → Result ℕ E → W → Type 0) (old : W) (piece : List ℕ) (faults faults' : ℕ) (result : Result (Unit {0}) Failed) (new : W) : Type 0 where
+pub record WriterGives {W E : Type 0} (written : W → Option (List ℕ)) (writes : W → List ℕ → Result ℕ E → W → Type 0) (old : W) (piece : List ℕ)
+    (faults faults' : ℕ) (result : Result (Unit {0}) Failed) (new : W) : Type 0 where
   pub made : MatchResult result (λ _. Taken writes old piece [] new) (λ _. Halted writes old piece new)
   pub empty : piece ≡ [] → IsOk result
   pub bytes : PushAppends (written old) (written new) result piece

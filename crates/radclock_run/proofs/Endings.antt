@@ -58,74 +58,98 @@ whole-done None e = refl
 whole-done (Some s) e = absurd (not-done s e)
 
 -- a whole input was read to its end
-read-whole : (limited : Bool) (text : List ℕ) (answer : Result ℕ Failed) (s : Option Stop) → StopsBehind limited text answer s → s ≡ None → (answer ≡ Ok 0) × (stop_of_file limited text ≡ None)
+read-whole : (limited : Bool) (text : List ℕ) (answer : Result ℕ Failed) (s : Option Stop) → StopsBehind limited text answer s → s ≡ None
+    → (answer ≡ Ok 0) × (stop_of_file limited text ≡ None)
 read-whole limited text answer s broke_off e = absurd (cc)
 read-whole limited text answer s at_end e = (refl, e)
 read-whole limited text answer s (in_piece n t some found) e = absurd (cc)
 read-whole limited text answer s (out_of_memory n) e = absurd (cc)
 
 -- where all lines went out, the status is the one that was due
-went-out : (due result : Status) (answer : Result (Unit {0}) Failed) → result ≡ ends_with due answer → result ≡ status.Done → (answer ≡ Ok tt) × (due ≡ status.Done)
+went-out : (due result : Status) (answer : Result (Unit {0}) Failed) → result ≡ ends_with due answer → result ≡ status.Done → (answer ≡ Ok tt)
+    × (due ≡ status.Done)
 went-out due result (Ok o) e is = (refl, sym e ∙ is)
 went-out due result (Err x) e is = absurd (cc)
 
 -- what a report leaves, by the headline and the desk
-pub leaves-by : (r : Report) (text : List ℕ) (told : Option Deviation) (old new : Desk) → Headline (Some (command.Report r)) text told new.pen → HoldsDone (Some (command.Report r)) old new → Leaves r (freq_of_file text) (items_of_file text) old new
+pub leaves-by : (r : Report) (text : List ℕ) (told : Option Deviation) (old new : Desk) → Headline (Some (command.Report r)) text told new.pen
+    → HoldsDone (Some (command.Report r)) old new → Leaves r (freq_of_file text) (items_of_file text) old new
 leaves-by report.Stamps text told old new line holds = holds
 leaves-by report.Rtt text told old new line holds = holds
 leaves-by report.Estimate text told old new line holds = holds
 leaves-by (report.Ticks ticks) text told old new line holds = holds
 leaves-by (report.Replay ticks readers reads back crank) text told old new line holds = line
 
-module _ {S : Type 0} (left : S → Option (List ℕ)) (faults : S → ℕ) (pull : PullGives S) (consumes : EachRead pull (λ old new r room. ReadConsumes (left old) (left new) r room)) (cause : EachRead pull (λ old new r room. HasCause (faults old) (faults new) r)) where
+module _ {S : Type 0} (left : S → Option (List ℕ)) (faults : S → ℕ) (pull : PullGives S)
+    (consumes : EachRead pull (λ old new r room. ReadConsumes (left old) (left new) r room))
+    (cause : EachRead pull (λ old new r room. HasCause (faults old) (faults new) r)) where
   pub took-by : (size : ℕ) (old : S) (text : List ℕ) (new : S) → Pulls pull size old text new → Took left faults pull size old text new
   took-by size old text new no_pull = took_nothing left faults pull size old
   took-by size old text new (pulls.one_more front piece n mid end before some last) =
       subst (λ (bs : List ℕ). Took left faults pull size old (front ++ bs) new) (sym last.front)
-      (took_more left faults pull size old mid new front last.room last.filled n (consumes mid new last.room last.filled (Ok n) last.gives) (cause mid new last.room last.filled (Ok n) last.gives) (took-by size old front mid before) some last.sized last.gives)
+      (took_more left faults pull size old mid new front last.room last.filled n (consumes mid new last.room last.filled (Ok n) last.gives)
+          (cause mid new last.room last.filled (Ok n) last.gives) (took-by size old front mid before) some last.sized last.gives)
 
-  piece-bytes : (old mid new : S) (front piece : List ℕ) (answer : Result ℕ Failed) → Consumes (left old) (left mid) front → Pulled pull 4096 mid answer piece new → Consumes (left old) (left new) (front ++ piece)
+  piece-bytes : (old mid new : S) (front piece : List ℕ) (answer : Result ℕ Failed) → Consumes (left old) (left mid) front
+      → Pulled pull 4096 mid answer piece new → Consumes (left old) (left new) (front ++ piece)
   piece-bytes old mid new front piece (Ok n) before last =
-      subst (λ (bs : List ℕ). Consumes (left old) (left new) (front ++ bs)) (sym last.front) (Consumes-trans (left old) (left mid) (left new) front (take n last.filled) before (consumes mid new last.room last.filled (Ok n) last.gives).0)
+      subst (λ (bs : List ℕ). Consumes (left old) (left new) (front ++ bs)) (sym last.front)
+          (Consumes-trans (left old) (left mid) (left new) front (take n last.filled) before (consumes mid new last.room last.filled (Ok n) last.gives).0)
   piece-bytes old mid new front piece (Err e) before last =
-      subst (Consumes (left old) (left new)) (sym (append-nil front) ∙ ap (λ (bs : List ℕ). front ++ bs) (sym last.front)) (Consumes-kept (left old) (left mid) (left new) front before (consumes mid new last.room last.filled (Err e) last.gives))
+      subst (Consumes (left old) (left new)) (sym (append-nil front) ∙ ap (λ (bs : List ℕ). front ++ bs) (sym last.front))
+          (Consumes-kept (left old) (left mid) (left new) front before (consumes mid new last.room last.filled (Err e) last.gives))
 
   -- the bytes of a text were taken from what was left
-  pub read-bytes : (limited : Bool) (old : S) (text : List ℕ) (s : Option Stop) (new : S) → ReadsTo pull limited old text s new → Consumes (left old) (left new) text
+  pub read-bytes : (limited : Bool) (old : S) (text : List ℕ) (s : Option Stop) (new : S) → ReadsTo pull limited old text s new
+      → Consumes (left old) (left new) text
   read-bytes limited old text s new reads =
-      subst (Consumes (left old) (left new)) (sym reads.whole) (piece-bytes old reads.mid new reads.front reads.piece reads.answer (took-by 4096 old reads.front reads.mid reads.pulls).bytes reads.last)
+      subst (Consumes (left old) (left new)) (sym reads.whole) (piece-bytes old reads.mid new reads.front reads.piece reads.answer
+          (took-by 4096 old reads.front reads.mid reads.pulls).bytes reads.last)
 
   -- at the end nothing is left
-  pub end-bytes : (mid new : S) (piece : List ℕ) (answer : Result ℕ Failed) (last : Pulled pull 4096 mid answer piece new) → length last.filled ≡ 4096 → answer ≡ Ok 0 → IsAtEnd (left new)
+  pub end-bytes : (mid new : S) (piece : List ℕ) (answer : Result ℕ Failed) (last : Pulled pull 4096 mid answer piece new) → length last.filled
+      ≡ 4096 → answer ≡ Ok 0 → IsAtEnd (left new)
   end-bytes mid new piece (Ok n) last full is =
       let none : n ≡ 0 = cc in
       (consumes mid new last.room last.filled (Ok n) last.gives).1 none (omega (arith, full))
   end-bytes mid new piece (Err e) last full is = absurd (cc)
 
   -- the count rose at a pull that failed alone
-  pull-rose : (old mid new : S) (room filled : List ℕ) (e : Failed) → faults mid ≡ faults old → pull mid room (Err e) filled new → Rose (faults old) (faults new)
+  pull-rose : (old mid new : S) (room filled : List ℕ) (e : Failed) → faults mid ≡ faults old → pull mid room (Err e) filled new
+      → Rose (faults old) (faults new)
   pull-rose old mid new room filled e same gives =
       let here = cause mid new room filled (Err e) gives in
       omega (arith, here.failed, same)
 
   -- the input alone stops a reading of a told input that counts no fault, or want of memory
-  stop-by : (limited : Bool) (old mid new : S) (text piece all : List ℕ) (answer : Result ℕ Failed) (s : Option Stop) → left old ≡ Some all → WasFree (faults old) (faults new) → Consumes (left old) (left new) text → faults mid ≡ faults old → (last : Pulled pull 4096 mid answer piece new) → length last.filled ≡ 4096
+  stop-by : (limited : Bool) (old mid new : S) (text piece all : List ℕ) (answer : Result ℕ Failed) (s : Option Stop) → left old ≡ Some all
+      → WasFree (faults old) (faults new) → Consumes (left old) (left new) text → faults mid ≡ faults old
+      → (last : Pulled pull 4096 mid answer piece new) → length last.filled ≡ 4096
       → StopsBehind limited text answer s → (status_by s ≡ status_by (stop_of_file limited all)) ⊎ (status_by s ≡ status.NoMemory)
-  stop-by limited old mid new text piece all answer s told free bytes same last full broke_off = absurd (not-rose (faults old) (faults new) free (pull-rose old mid new last.room last.filled (record {}) same last.gives))
-  stop-by limited old mid new text piece all answer s told free bytes same last full at_end = inl (ap (λ t. status_by (stop_of_file limited t)) (sym (taken-whole (left old) (left new) text all told bytes (end-bytes mid new piece (Ok 0) last full refl))))
+  stop-by limited old mid new text piece all answer s told free bytes same last full broke_off =
+      absurd (not-rose (faults old) (faults new) free (pull-rose old mid new last.room last.filled (record {}) same last.gives))
+  stop-by limited old mid new text piece all answer s told free bytes same last full at_end =
+      inl (ap (λ t. status_by (stop_of_file limited t)) (sym (taken-whole (left old) (left new) text all told bytes
+      (end-bytes mid new piece (Ok 0) last full refl))))
   stop-by limited old mid new text piece all answer s told free bytes same last full (in_piece n t some found) =
       let rest = taken-all (left old) (left new) text all told bytes in
       inl (ap status_by (sym (ap (stop_of_file limited) rest.1 ∙ stop_of_file-stays limited text rest.0 t found)))
   stop-by limited old mid new text piece all answer s told free bytes same last full (out_of_memory n) = inr refl
 
-  pub read-stops : (limited : Bool) (old : S) (text : List ℕ) (s : Option Stop) (new : S) (all : List ℕ) → ReadsTo pull limited old text s new → left old ≡ Some all → WasFree (faults old) (faults new) → (status_by s ≡ status_by (stop_of_file limited all)) ⊎ (status_by s ≡ status.NoMemory)
+  pub read-stops : (limited : Bool) (old : S) (text : List ℕ) (s : Option Stop) (new : S) (all : List ℕ) → ReadsTo pull limited old text s new
+      → left old ≡ Some all → WasFree (faults old) (faults new) → (status_by s ≡ status_by (stop_of_file limited all)) ⊎ (status_by s ≡ status.NoMemory)
   read-stops limited old text s new all reads told free =
-      stop-by limited old reads.mid new text reads.piece all reads.answer s told free (read-bytes limited old text s new reads) (took-by 4096 old reads.front reads.mid reads.pulls).same reads.last reads.sized reads.stops
+      stop-by limited old reads.mid new text reads.piece all reads.answer s told free (read-bytes limited old text s new reads)
+          (took-by 4096 old reads.front reads.mid reads.pulls).same reads.last reads.sized reads.stops
 
-module _ {K : Type 0} (written : K → Option (List ℕ)) (faults : K → ℕ) (push : PushGives K) (appends : EachWrite push (λ old new piece r. PushAppends (written old) (written new) r piece)) (cause : EachWrite push (λ old new piece r. HasCause (faults old) (faults new) r)) where
+module _ {K : Type 0} (written : K → Option (List ℕ)) (faults : K → ℕ) (push : PushGives K)
+    (appends : EachWrite push (λ old new piece r. PushAppends (written old) (written new) r piece))
+    (cause : EachWrite push (λ old new piece r. HasCause (faults old) (faults new) r)) where
   pub wrote-by : (old : K) (pieces : List (List ℕ)) (new : K) → Pushes push old pieces new → Wrote written faults push old pieces new
   wrote-by old pieces new no_push = wrote_nothing written faults push old
-  wrote-by old pieces new (pushes.one_more front piece mid end before gives) = wrote_more written faults push old mid new front piece (appends mid new piece (Ok tt) gives) (cause mid new piece (Ok tt) gives) (wrote-by old front mid before) gives
+  wrote-by old pieces new (pushes.one_more front piece mid end before gives) =
+      wrote_more written faults push old mid new front piece (appends mid new piece (Ok tt) gives) (cause mid new piece (Ok tt) gives)
+      (wrote-by old front mid before) gives
 
   -- what goes out by lines, or in blocks, is appended, and a push that fails is counted
   pub lines-append : (old : K) (lines : List (List ℕ)) (new : K) → ByLines push old lines (Ok tt) new → Appends (written old) (written new) (concat lines)
@@ -137,23 +161,35 @@ module _ {K : Type 0} (written : K → Option (List ℕ)) (faults : K → ℕ) (
       let here = cause out.mid new out.failed (Err (record {})) out.last in
       omega (arith, here.failed, before.same)
 
-module _ {K : Type 0} (written : K → Option (List ℕ)) (faults : K → ℕ) (push : PushGives K) (appends : EachWrite push (λ old new piece r. PushAppends (written old) (written new) r piece)) (cause : EachWrite push (λ old new piece r. HasCause (faults old) (faults new) r)) where
+module _ {K : Type 0} (written : K → Option (List ℕ)) (faults : K → ℕ) (push : PushGives K)
+    (appends : EachWrite push (λ old new piece r. PushAppends (written old) (written new) r piece))
+    (cause : EachWrite push (λ old new piece r. HasCause (faults old) (faults new) r)) where
   pub blocks-append : (old : K) (lines : List (List ℕ)) (new : K) → ByBlocks push old lines (Ok tt) new → Appends (written old) (written new) (concat lines)
   blocks-append old lines new out =
-      subst (Appends (written old) (written new)) out.bytes (lines-append written faults (Short push) (λ old new piece r gives. appends old new piece r gives.1) (λ old new piece r gives. cause old new piece r gives.1) old out.blocks new out.pushed)
+      subst (Appends (written old) (written new)) out.bytes (lines-append written faults (Short push)
+          (λ old new piece r gives. appends old new piece r gives.1) (λ old new piece r gives. cause old new piece r gives.1) old out.blocks new out.pushed)
 
   pub blocks-rose : (old : K) (lines : List (List ℕ)) (new : K) → ByBlocks push old lines (Err (record {})) new → Rose (faults old) (faults new)
-  blocks-rose old lines new out = lines-rose written faults (Short push) (λ old new piece r gives. appends old new piece r gives.1) (λ old new piece r gives. cause old new piece r gives.1) old out.blocks new out.pushed
+  blocks-rose old lines new out = lines-rose written faults (Short push) (λ old new piece r gives. appends old new piece r gives.1)
+      (λ old new piece r gives. cause old new piece r gives.1) old out.blocks new out.pushed
 
-module _ {S K : Type 0} (left : S → Option (List ℕ)) (pull_faults : S → ℕ) (pull : PullGives S) (consumes : EachRead pull (λ old new r room. ReadConsumes (left old) (left new) r room)) (reads_cause : EachRead pull (λ old new r room. HasCause (pull_faults old) (pull_faults new) r))
-    (written : K → Option (List ℕ)) (push_faults : K → ℕ) (writes : Writing K) (appends : (old : K) (lines : List (List ℕ)) (new : K) → writes old lines (Ok tt) new → Appends (written old) (written new) (concat lines)) (rose : (old : K) (lines : List (List ℕ)) (new : K) → writes old lines (Err (record {})) new → Rose (push_faults old) (push_faults new)) where
+module _ {S K : Type 0} (left : S → Option (List ℕ)) (pull_faults : S → ℕ) (pull : PullGives S)
+    (consumes : EachRead pull (λ old new r room. ReadConsumes (left old) (left new) r room))
+    (reads_cause : EachRead pull (λ old new r room. HasCause (pull_faults old) (pull_faults new) r))
+    (written : K → Option (List ℕ)) (push_faults : K → ℕ) (writes : Writing K)
+        (appends : (old : K) (lines : List (List ℕ)) (new : K) → writes old lines (Ok tt) new → Appends (written old) (written new) (concat lines))
+        (rose : (old : K) (lines : List (List ℕ)) (new : K) → writes old lines (Err (record {})) new → Rose (push_faults old) (push_faults new)) where
   -- the lines of a done run are appended
-  done-appends : (asked : Option Command) (text : List ℕ) (told : Option Deviation) (pen : PenShows) (sink sink' : K) (due : Status) (answer : Result (Unit {0}) Failed) → writes sink (lines_due asked text told pen due) answer sink' → answer ≡ Ok tt → due ≡ status.Done → Appends (written sink) (written sink') (concat (done_lines asked text told pen))
+  done-appends : (asked : Option Command) (text : List ℕ) (told : Option Deviation) (pen : PenShows) (sink sink' : K) (due : Status)
+      (answer : Result (Unit {0}) Failed) → writes sink (lines_due asked text told pen due) answer sink' → answer ≡ Ok tt → due ≡ status.Done
+      → Appends (written sink) (written sink') (concat (done_lines asked text told pen))
   done-appends asked text told pen sink sink' due answer wrote all is =
-      appends sink (done_lines asked text told pen) sink' (subst (λ a. writes sink (done_lines asked text told pen) a sink') all (subst (λ due. writes sink (lines_due asked text told pen due) answer sink') is wrote))
+      appends sink (done_lines asked text told pen) sink' (subst (λ a. writes sink (done_lines asked text told pen) a sink') all
+          (subst (λ due. writes sink (lines_due asked text told pen due) answer sink') is wrote))
 
   -- a done report
-  report-done : (r : Report) (source source' : S) (sink sink' : K) (desk desk' : Desk) (result : Status) → Ran pull writes (Some (command.Report r)) source source' sink sink' desk desk' result → result ≡ status.Done → WasRead (left source) (left source') (written sink) (written sink') desk desk' r
+  report-done : (r : Report) (source source' : S) (sink sink' : K) (desk desk' : Desk) (result : Status) → Ran pull writes (Some (command.Report r))
+      source source' sink sink' desk desk' result → result ≡ status.Done → WasRead (left source) (left source') (written sink) (written sink') desk desk' r
   report-done r source source' sink sink' desk desk' result ran is =
       let out = went-out ran.due result ran.answer ran.ended is in
       let none : ran.stopped ≡ None = elim ran.status_is [ inl due ↦ whole-done ran.stopped (sym due ∙ out.1) | inr short ↦ short.1 ] in
@@ -169,18 +205,21 @@ module _ {S K : Type 0} (left : S → Option (List ℕ)) (pull_faults : S → �
               few_bytes = sound.few_bytes;
               few_items = sound.few_items;
               few_accepted = sound.few_accepted;
-              leaves = leaves-by r ran.text ran.told desk desk' (ran.headline out.1) (subst (λ due. Holds (Some (command.Report r)) due desk desk') out.1 ran.holds);
+              leaves = leaves-by r ran.text ran.told desk desk' (ran.headline out.1)
+                  (subst (λ due. Holds (Some (command.Report r)) due desk desk') out.1 ran.holds);
               wrote = done-appends (Some (command.Report r)) ran.text ran.told desk'.pen sink sink' ran.due ran.answer ran.wrote out.0 out.1;
             }
         | inr unread ↦ let e = sym none ∙ unread.1 in absurd (cc)
       ]
 
   -- what a done run read and wrote
-  pub done-by : (asked : Option Command) (source source' : S) (sink sink' : K) (desk desk' : Desk) (result : Status) → Ran pull writes asked source source' sink sink' desk desk' result → result ≡ status.Done → WasDone (left source) (left source') (written sink) (written sink') desk desk' asked
+  pub done-by : (asked : Option Command) (source source' : S) (sink sink' : K) (desk desk' : Desk) (result : Status) → Ran pull writes asked source
+      source' sink sink' desk desk' result → result ≡ status.Done → WasDone (left source) (left source') (written sink) (written sink') desk desk' asked
   done-by None source source' sink sink' desk desk' result ran is =
       let out = went-out ran.due result ran.answer ran.ended is in
       elim ran.status_is [ inl due ↦ let e = sym due ∙ out.1 in absurd (cc) | inr short ↦ let e = sym short.0 ∙ out.1 in absurd (cc) ]
-  done-by (Some (command.Report r)) source source' sink sink' desk desk' result ran is = reported r refl (report-done r source source' sink sink' desk desk' result ran is)
+  done-by (Some (command.Report r)) source source' sink sink' desk desk' result ran is =
+      reported r refl (report-done r source source' sink sink' desk desk' result ran is)
   done-by (Some (command.Make number count)) source source' sink sink' desk desk' result ran is =
       let out = went-out ran.due result ran.answer ran.ended is in
       let line = Some (command.Make number count) in
@@ -193,13 +232,16 @@ module _ {S K : Type 0} (left : S → Option (List ℕ)) (pull_faults : S → �
       (done-appends line ran.text ran.told desk'.pen sink sink' ran.due ran.answer ran.wrote out.0 out.1)
 
   -- what a done replay printed and left
-  pub headline-by : (o : Options) (source source' : S) (sink sink' : K) (desk desk' : Desk) (result : Status) → Ran pull writes (Some (command.Report (replay_by o))) source source' sink sink' desk desk' result → result ≡ status.Done → HeadlineInBytes (left source) (left source') (written sink) (written sink') o desk'.pen
+  pub headline-by : (o : Options) (source source' : S) (sink sink' : K) (desk desk' : Desk) (result : Status) → Ran pull writes
+      (Some (command.Report (replay_by o))) source source' sink sink' desk desk' result → result ≡ status.Done
+      → HeadlineInBytes (left source) (left source') (written sink) (written sink') o desk'.pen
   headline-by o source source' sink sink' desk desk' result ran is =
       let done = report-done (replay_by o) source source' sink sink' desk desk' result ran is in
       record { text = done.text; bytes = done.bytes; ended = done.ended; sound = done.sound; printed = done.wrote; replayed = done.leaves }
 
   -- and what a done run over made stamps did
-  pub summary-by : (a : Asked) (source source' : S) (sink sink' : K) (desk desk' : Desk) (result : Status) → Ran pull writes (Some (run_by a)) source source' sink sink' desk desk' result → result ≡ status.Done → RunInBytes (left source) (left source') (written sink) (written sink') a desk'.pen
+  pub summary-by : (a : Asked) (source source' : S) (sink sink' : K) (desk desk' : Desk) (result : Status) → Ran pull writes (Some (run_by a)) source
+      source' sink sink' desk desk' result → result ≡ status.Done → RunInBytes (left source) (left source') (written sink) (written sink') a desk'.pen
   summary-by a source source' sink sink' desk desk' result ran is =
       let out = went-out ran.due result ran.answer ran.ended is in
       record {
@@ -210,7 +252,8 @@ module _ {S K : Type 0} (left : S → Option (List ℕ)) (pull_faults : S → �
       }
 
   -- what a done report told is true
-  pub truth-by : (r : Report) (source source' : S) (sink sink' : K) (desk desk' : Desk) (result : Status) → Ran pull writes (Some (command.Report r)) source source' sink sink' desk desk' result → result ≡ status.Done → TruthInBytes (left source) (left source') (written sink) (written sink') r desk'.pen
+  pub truth-by : (r : Report) (source source' : S) (sink sink' : K) (desk desk' : Desk) (result : Status) → Ran pull writes (Some (command.Report r))
+      source source' sink sink' desk desk' result → result ≡ status.Done → TruthInBytes (left source) (left source') (written sink) (written sink') r desk'.pen
   truth-by r source source' sink sink' desk desk' result ran is =
       let out = went-out ran.due result ran.answer ran.ended is in
       let none : ran.stopped ≡ None = elim ran.status_is [ inl due ↦ whole-done ran.stopped (sym due ∙ out.1) | inr short ↦ short.1 ] in
@@ -228,7 +271,8 @@ module _ {S K : Type 0} (left : S → Option (List ℕ)) (pull_faults : S → �
       ]
 
   -- and so is what a done run over made stamps left
-  pub made-truth-by : (a : Asked) (source source' : S) (sink sink' : K) (desk desk' : Desk) (result : Status) → Ran pull writes (Some (run_by a)) source source' sink sink' desk desk' result → result ≡ status.Done → MadeTruth a desk'.pen
+  pub made-truth-by : (a : Asked) (source source' : S) (sink sink' : K) (desk desk' : Desk) (result : Status) → Ran pull writes (Some (run_by a))
+      source source' sink sink' desk desk' result → result ≡ status.Done → MadeTruth a desk'.pen
   made-truth-by a source source' sink sink' desk desk' result ran is = ran.truth (went-out ran.due result ran.answer ran.ended is).1
 
   -- with these statuses no tick was made
@@ -238,7 +282,8 @@ module _ {S K : Type 0} (left : S → Option (List ℕ)) (pull_faults : S → �
   none-short (Some (command.Make number count)) desk desk' fresh holds = ap (λ (d : Desk). d.pen.journal) holds ∙ fresh
   none-short (Some (command.Run number count ideal)) desk desk' fresh holds = holds
 
-  none-at : (asked : Option Command) (desk desk' : Desk) (due : Status) → desk.pen.journal ≡ cold ∷ [] → MakesNone due → Holds asked due desk desk' → desk'.pen.journal ≡ cold ∷ []
+  none-at : (asked : Option Command) (desk desk' : Desk) (due : Status) → desk.pen.journal ≡ cold ∷ [] → MakesNone due → Holds asked due desk desk'
+      → desk'.pen.journal ≡ cold ∷ []
   none-at asked desk desk' status.Done fresh not holds = absurd not
   none-at asked desk desk' (status.BadInput f) fresh not holds = ap (λ (d : Desk). d.pen.journal) holds ∙ fresh
   none-at asked desk desk' status.Usage fresh not holds = ap (λ (d : Desk). d.pen.journal) holds ∙ fresh
@@ -251,21 +296,27 @@ module _ {S K : Type 0} (left : S → Option (List ℕ)) (pull_faults : S → �
   none-of due result (Ok o) e none = subst MakesNone e none
   none-of due result (Err x) e none = absurd (subst MakesNone e none)
 
-  pub none-by : (asked : Option Command) (source source' : S) (sink sink' : K) (desk desk' : Desk) (result : Status) → desk.pen.journal ≡ cold ∷ [] → Ran pull writes asked source source' sink sink' desk desk' result → MakesNone result → desk'.pen.journal ≡ cold ∷ []
-  none-by asked source source' sink sink' desk desk' result fresh ran none = none-at asked desk desk' ran.due fresh (none-of ran.due result ran.answer ran.ended none) ran.holds
+  pub none-by : (asked : Option Command) (source source' : S) (sink sink' : K) (desk desk' : Desk) (result : Status) → desk.pen.journal ≡ cold ∷ []
+      → Ran pull writes asked source source' sink sink' desk desk' result → MakesNone result → desk'.pen.journal ≡ cold ∷ []
+  none-by asked source source' sink sink' desk desk' result fresh ran none =
+      none-at asked desk desk' ran.due fresh (none-of ran.due result ran.answer ran.ended none) ran.holds
 
   -- a run that counts no failing push ends as is due
-  as-due : (sink sink' : K) (lines : List (List ℕ)) (due result : Status) (answer : Result (Unit {0}) Failed) → WasFree (push_faults sink) (push_faults sink') → writes sink lines answer sink' → result ≡ ends_with due answer → result ≡ due
+  as-due : (sink sink' : K) (lines : List (List ℕ)) (due result : Status) (answer : Result (Unit {0}) Failed) → WasFree (push_faults sink)
+      (push_faults sink') → writes sink lines answer sink' → result ≡ ends_with due answer → result ≡ due
   as-due sink sink' lines due result (Ok o) free out e = e
   as-due sink sink' lines due result (Err x) free out e = absurd (not-rose (push_faults sink) (push_faults sink') free (rose sink lines sink' out))
 
-  due-or : (asked : Option Command) (s : Option Stop) (due result X : Status) → IsDue asked s due → status_due asked s ≡ X → result ≡ due → (result ≡ X) ⊎ (result ≡ status.NoMemory)
+  due-or : (asked : Option Command) (s : Option Stop) (due result X : Status) → IsDue asked s due → status_due asked s ≡ X → result ≡ due
+      → (result ≡ X) ⊎ (result ≡ status.NoMemory)
   due-or asked s due result X is wants e = elim is [ inl due ↦ inl (e ∙ due ∙ wants) | inr short ↦ inr (e ∙ short.0) ]
 
   -- words that are no line are told, but for want of memory
-  pub usage-by : (source source' : S) (sink sink' : K) (desk desk' : Desk) (result : Status) → Ran pull writes None source source' sink sink' desk desk' result → (result ≡ status.Usage) ⊎ ((result ≡ status.WriteFault) ⊎ (result ≡ status.NoMemory))
+  pub usage-by : (source source' : S) (sink sink' : K) (desk desk' : Desk) (result : Status) → Ran pull writes None source source' sink sink' desk
+      desk' result → (result ≡ status.Usage) ⊎ ((result ≡ status.WriteFault) ⊎ (result ≡ status.NoMemory))
   usage-by source source' sink sink' desk desk' result ran =
-      let split : (answer : Result (Unit {0}) Failed) → result ≡ ends_with ran.due answer → (result ≡ status.Usage) ⊎ ((result ≡ status.WriteFault) ⊎ (result ≡ status.NoMemory)) =
+      let split : (answer : Result (Unit {0}) Failed) → result ≡ ends_with ran.due answer → (result ≡ status.Usage)
+          ⊎ ((result ≡ status.WriteFault) ⊎ (result ≡ status.NoMemory)) =
       elim [
         | Ok o ↦ λ e. elim ran.status_is [ inl due ↦ inl (e ∙ due) | inr short ↦ inr (inr (e ∙ short.0)) ]
         | Err x ↦ λ e. inr (inl e)
@@ -273,20 +324,30 @@ module _ {S K : Type 0} (left : S → Option (List ℕ)) (pull_faults : S → �
       split ran.answer ran.ended
 
   -- and one that makes a file, or over made stamps, is done
-  pub made-by : (number count : ℕ) (source source' : S) (sink sink' : K) (desk desk' : Desk) (result : Status) → Ran pull writes (Some (command.Make number count)) source source' sink sink' desk desk' result → WasFree (push_faults sink) (push_faults sink') → (result ≡ status.Done) ⊎ (result ≡ status.NoMemory)
-  made-by number count source source' sink sink' desk desk' result ran free = due-or (Some (command.Make number count)) ran.stopped ran.due result status.Done ran.status_is refl (as-due sink sink' _ ran.due result ran.answer free ran.wrote ran.ended)
+  pub made-by : (number count : ℕ) (source source' : S) (sink sink' : K) (desk desk' : Desk) (result : Status) → Ran pull writes
+      (Some (command.Make number count)) source source' sink sink' desk desk' result → WasFree (push_faults sink) (push_faults sink')
+      → (result ≡ status.Done) ⊎ (result ≡ status.NoMemory)
+  made-by number count source source' sink sink' desk desk' result ran free =
+      due-or (Some (command.Make number count)) ran.stopped ran.due result status.Done ran.status_is refl
+      (as-due sink sink' _ ran.due result ran.answer free ran.wrote ran.ended)
 
-  pub ran-by : (a : Asked) (source source' : S) (sink sink' : K) (desk desk' : Desk) (result : Status) → Ran pull writes (Some (run_by a)) source source' sink sink' desk desk' result → WasFree (push_faults sink) (push_faults sink') → (result ≡ status.Done) ⊎ (result ≡ status.NoMemory)
-  ran-by a source source' sink sink' desk desk' result ran free = due-or (Some (run_by a)) ran.stopped ran.due result status.Done ran.status_is refl (as-due sink sink' _ ran.due result ran.answer free ran.wrote ran.ended)
+  pub ran-by : (a : Asked) (source source' : S) (sink sink' : K) (desk desk' : Desk) (result : Status) → Ran pull writes (Some (run_by a)) source
+      source' sink sink' desk desk' result → WasFree (push_faults sink) (push_faults sink') → (result ≡ status.Done) ⊎ (result ≡ status.NoMemory)
+  ran-by a source source' sink sink' desk desk' result ran free =
+      due-or (Some (run_by a)) ran.stopped ran.due result status.Done ran.status_is refl
+      (as-due sink sink' _ ran.due result ran.answer free ran.wrote ran.ended)
 
   -- a report on a told input that no count of faults tells of ends as its input says, or for want of memory
-  pub complete-by : (r : Report) (all : List ℕ) (source source' : S) (sink sink' : K) (desk desk' : Desk) (result : Status) → Ran pull writes (Some (command.Report r)) source source' sink sink' desk desk' result → left source ≡ Some all → WasFree (pull_faults source) (pull_faults source') → WasFree (push_faults sink) (push_faults sink')
+  pub complete-by : (r : Report) (all : List ℕ) (source source' : S) (sink sink' : K) (desk desk' : Desk) (result : Status) → Ran pull writes
+      (Some (command.Report r)) source source' sink sink' desk desk' result → left source ≡ Some all
+      → WasFree (pull_faults source) (pull_faults source') → WasFree (push_faults sink) (push_faults sink')
       → (result ≡ status_by (stop_of_file (takes_few r) all)) ⊎ (result ≡ status.NoMemory)
   complete-by r all source source' sink sink' desk desk' result ran told free_source free_sink =
       let e = as-due sink sink' _ ran.due result ran.answer free_sink ran.wrote ran.ended in
       elim ran.status_is [
         | inl due ↦ elim ran.read [
-          | inl reads ↦ elim (read-stops left pull_faults pull consumes reads_cause (takes_few r) source ran.text ran.stopped source' all reads told free_source) [ inl is ↦ inl (e ∙ due ∙ is) | inr memory ↦ inr (e ∙ due ∙ memory) ]
+          | inl reads ↦ elim (read-stops left pull_faults pull consumes reads_cause (takes_few r) source ran.text ran.stopped source' all reads told
+              free_source) [ inl is ↦ inl (e ∙ due ∙ is) | inr memory ↦ inr (e ∙ due ∙ memory) ]
           | inr unread ↦ inr (e ∙ due ∙ ap status_by unread.1)
         ]
         | inr short ↦ inr (e ∙ short.0)

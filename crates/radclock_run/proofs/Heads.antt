@@ -63,12 +63,15 @@ later-gives second n line h =
     let text = without_return line in
     let one : eqb n 1 ≡ false = grind (arith, nat_tests) in
     let two : eqb n 2 ≡ false = grind (arith, nat_tests) in
-    let entry : short_says second n line ≡ entry_says second n text = ap (λ t. cond t (version_says text) (cond (eqb n 2) (freq_says second text) (entry_says second n text))) one ∙ ap (λ t. cond t (freq_says second text) (entry_says second n text)) two in
+    let entry : short_says second n line ≡ entry_says second n text = ap
+        (λ t. cond t (version_says text) (cond (eqb n 2) (freq_says second text) (entry_says second n text))) one
+        ∙ ap (λ t. cond t (freq_says second text) (entry_says second n text)) two in
     either GivesItem (ltb 255 (length line)) (Err why.LongLine) (short_says second n line) tt (subst GivesItem (sym entry) (entry-gives second n text))
 
 -- line 1
 first-gives : (second : Bool) (line : List ℕ) → GivesNothing (line_says second 1 line)
-first-gives second line = either GivesNothing (ltb 255 (length line)) (Err why.LongLine) (short_says second 1 line) tt (either GivesNothing (bytes_eq (without_return line) (codes "radclock-stamps 1") || is_second (without_return line)) (Ok None) (Err why.Head) tt tt)
+first-gives second line = either GivesNothing (ltb 255 (length line)) (Err why.LongLine) (short_says second 1 line) tt
+    (either GivesNothing (bytes_eq (without_return line) (codes "radclock-stamps 1") || is_second (without_return line)) (Ok None) (Err why.Head) tt tt)
 
 -- line 2
 head-gives : (second : Bool) (o : Option ℕ) → IfOk (head_of second o) IsHead
@@ -76,7 +79,8 @@ head-gives second None = tt
 head-gives second (Some n) = tt
 
 second-gives : (second : Bool) (line : List ℕ) → IfOk (line_says second 2 line) IsHead
-second-gives second line = either (λ r. IfOk r IsHead) (ltb 255 (length line)) (Err why.LongLine) (short_says second 2 line) tt (head-gives second (freq_in (without_return line)))
+second-gives second line = either (λ r. IfOk r IsHead) (ltb 255 (length line)) (Err why.LongLine) (short_says second 2 line) tt
+    (head-gives second (freq_in (without_return line)))
 
 -- what is given by a line and those behind it
 items-on : (r : Result (Option Line) Why) (more : List Line) → GivesItem r → AllByRecursion IsItemLine more → AllByRecursion IsItemLine (given_on r more)
@@ -99,7 +103,8 @@ nothing-on (Err w) more is headed = tt
 
 items-from : (second : Bool) (n : ℕ) (lines : List (List ℕ)) → 3 ≤ n → AllByRecursion IsItemLine (given_from second n lines)
 items-from second n [] h = tt
-items-from second n (l ∷ ls) h = items-on (line_says second n l) (given_from second (n + 1) ls) (later-gives second n l h) (items-from second (n + 1) ls (omega arith))
+items-from second n (l ∷ ls) h = items-on (line_says second n l) (given_from second (n + 1) ls) (later-gives second n l h)
+    (items-from second (n + 1) ls (omega arith))
 
 headed-second : (second : Bool) (lines : List (List ℕ)) → IsHeaded (given_from second 2 lines)
 headed-second second [] = tt
@@ -160,7 +165,8 @@ freq-ranged head (gives.Set n count at ∷ lines) is all = freq-ranged head line
 freq-ranged head (gives.Leap n count leap ∷ lines) is all = freq-ranged head lines is all.1
 
 -- before an item stands a head
-pub item-ranged : (lines : List Line) (line : Line) → IsItemLine line → IsHeaded (lines ++ line ∷ []) → AllByRecursion IsLineInRange lines → IsFreq (head_after no_head lines).freq
+pub item-ranged : (lines : List Line) (line : Line) → IsItemLine line → IsHeaded (lines ++ line ∷ []) → AllByRecursion IsLineInRange lines
+    → IsFreq (head_after no_head lines).freq
 item-ranged [] (gives.Head h) is headed all = absurd is
 item-ranged [] (gives.Stamp n s) is headed all = absurd headed
 item-ranged [] (gives.Set n count at) is headed all = absurd headed

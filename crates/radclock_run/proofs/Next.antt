@@ -35,14 +35,18 @@ pub not-refused : (r : Result (Unit {0}) Refused) (f : Full) (why : Refused) →
 not-refused (Ok o) f why e is = absurd (cc)
 not-refused (Err w) f why e is = absurd (cc)
 
-pub more-stamps : (x : Item) (old new n : ℕ) → new ≡ old + n → n ≡ cond {A = ℕ} (is_stamp x) 1 0 → new ≡ old + cond {A = ℕ} (is_stamp x && is_ok {T = Unit {0}} {E = Refused} (Ok tt)) 1 0
+pub more-stamps : (x : Item) (old new n : ℕ) → new ≡ old + n → n ≡ cond {A = ℕ} (is_stamp x) 1 0 → new ≡ old
+    + cond {A = ℕ} (is_stamp x && is_ok {T = Unit {0}} {E = Refused} (Ok tt)) 1 0
 more-stamps (item.Stamp s) old new n e is = omega arith
 more-stamps (item.Set count at) old new n e is = omega arith
 more-stamps (item.Leap count leap) old new n e is = omega arith
 
 -- a value and a tally go on with an accepted item
-pub stands-next : {T : Type 0} (stands : T → Head → List Item → Type 0) (telling telling' : T) (head : Head) (old new : Tally) (items : List Item) (x : Item) → StandsAt stands telling head old items → Ok tt ≡ test_of head.freq old.past x
-    → new.past ≡ seen_with old.past x → new.accepted ≡ old.accepted + cond {A = ℕ} (is_stamp x && is_ok {T = Unit {0}} {E = Refused} (Ok tt)) 1 0 → (accept_item head.freq items x ≡ Ok tt → stands telling' head (items ++ x ∷ [])) → StandsAt stands telling' head new (accepted_with items x (accept_item head.freq items x))
+pub stands-next : {T : Type 0} (stands : T → Head → List Item → Type 0) (telling telling' : T) (head : Head) (old new : Tally) (items : List Item)
+    (x : Item) → StandsAt stands telling head old items → Ok tt ≡ test_of head.freq old.past x
+    → new.past ≡ seen_with old.past x → new.accepted ≡ old.accepted + cond {A = ℕ} (is_stamp x && is_ok {T = Unit {0}} {E = Refused} (Ok tt)) 1 0
+        → (accept_item head.freq items x ≡ Ok tt → stands telling' head (items ++ x ∷ []))
+        → StandsAt stands telling' head new (accepted_with items x (accept_item head.freq items x))
 stands-next stands telling telling' head old new items x at test past count stood =
     let answer : accept_item head.freq items x ≡ Ok tt = ap (λ seen. test_of head.freq seen x) (sym at.seen) ∙ sym test in
     subst (StandsAt stands telling' head new) (sym (ap (accepted_with items x) answer)) (record {

@@ -19,7 +19,9 @@ use Rattle.radclock_run.specs.Tellings.{told_of, told}
 use Rattle.radclock_run.specs.Tallies.{StandsAt}
 
 -- some lines of the whole were written, and with them these items were accepted, up to the i-th item
-pub record Progress {K T : Type 0} (written : K → Option (List ℕ)) (faults : K → ℕ) (push : K → List ℕ → Result (Unit {0}) Failed → K → Type 0) (stands : T → Head → List Item → Type 0) (says : List Item → Stamp → List ℕ) (head : Head) (first : List ℕ) (items : List ItemLine) (i : ℕ) (old new : K) (telling : T) (tally : Tally) : Type 0 where
+pub record Progress {K T : Type 0} (written : K → Option (List ℕ)) (faults : K → ℕ) (push : K → List ℕ → Result (Unit {0}) Failed → K → Type 0)
+    (stands : T → Head → List Item → Type 0) (says : List Item → Stamp → List ℕ) (head : Head) (first : List ℕ) (items : List ItemLine) (i : ℕ)
+    (old new : K) (telling : T) (tally : Tally) : Type 0 where
   pub front : List (List ℕ)
   pub accepted : List Item
   pub at : StandsAt stands telling head tally accepted
@@ -33,19 +35,29 @@ abbrev pub answer_to : ℕ → List Item → ItemLine → Result (Unit {0}) Refu
 answer_to freq accepted x = accept_item freq accepted x.item
 
 -- the line of the next item, and those after it
-pub lines-next : (says : List Item → Stamp → List ℕ) (freq : ℕ) (accepted : List Item) (items : List ItemLine) (i : ℕ) (d : ItemLine) → i < length items → told says accepted (outcomes freq accepted (drop i items)) ≡ told_of says accepted (get_or items i d).line (get_or items i d).item (answer_to freq accepted (get_or items i d)) ∷ told says (accepted_with accepted (get_or items i d).item (answer_to freq accepted (get_or items i d))) (outcomes freq (accepted_with accepted (get_or items i d).item (answer_to freq accepted (get_or items i d))) (drop (i + 1) items))
+pub lines-next : (says : List Item → Stamp → List ℕ) (freq : ℕ) (accepted : List Item) (items : List ItemLine) (i : ℕ) (d : ItemLine) → i < length
+    items → told says accepted (outcomes freq accepted (drop i items)) ≡ told_of says accepted (get_or items i d).line (get_or items i d).item
+    (answer_to freq accepted (get_or items i d)) ∷ told says
+    (accepted_with accepted (get_or items i d).item (answer_to freq accepted (get_or items i d)))
+    (outcomes freq (accepted_with accepted (get_or items i d).item (answer_to freq accepted (get_or items i d))) (drop (i + 1) items))
 lines-next says freq accepted items i d h = at_drop_more (λ xs. told says accepted (outcomes freq accepted xs)) items i d h
 
 -- the count of answers of a kind, from the next item on
-pub count-next : (p : Outcome → Bool) (freq : ℕ) (accepted : List Item) (items : List ItemLine) (i : ℕ) (d : ItemLine) → i < length items → count_by p (outcomes freq accepted (drop i items)) ≡ cond (p (outcome_of freq accepted (get_or items i d))) 1 0 + count_by p (outcomes freq (accepted_with accepted (get_or items i d).item (answer_to freq accepted (get_or items i d))) (drop (i + 1) items))
-count-next p freq accepted items i d h = at_drop_more (λ xs. count_by p (outcomes freq accepted xs)) items i d h ∙ sum_by-cons (λ o. cond (p o) 1 0) (outcome_of freq accepted (get_or items i d)) (outcomes freq (accepted_with accepted (get_or items i d).item (answer_to freq accepted (get_or items i d))) (drop (i + 1) items))
+pub count-next : (p : Outcome → Bool) (freq : ℕ) (accepted : List Item) (items : List ItemLine) (i : ℕ) (d : ItemLine) → i < length items
+    → count_by p (outcomes freq accepted (drop i items)) ≡ cond (p (outcome_of freq accepted (get_or items i d))) 1 0
+    + count_by p (outcomes freq (accepted_with accepted (get_or items i d).item (answer_to freq accepted (get_or items i d))) (drop (i + 1) items))
+count-next p freq accepted items i d h = at_drop_more (λ xs. count_by p (outcomes freq accepted xs)) items i d h
+    ∙ sum_by-cons (λ o. cond (p o) 1 0) (outcome_of freq accepted (get_or items i d))
+    (outcomes freq (accepted_with accepted (get_or items i d).item (answer_to freq accepted (get_or items i d))) (drop (i + 1) items))
 
 -- the next line stands in the whole text with its end
-pub next-whole : (lines front : List (List ℕ)) (line : List ℕ) (rest end : List (List ℕ)) → lines ≡ front ++ (line ∷ rest) → front ++ (line ∷ (rest ++ end)) ≡ lines ++ end
+pub next-whole : (lines front : List (List ℕ)) (line : List ℕ) (rest end : List (List ℕ)) → lines ≡ front ++ (line ∷ rest) → front
+    ++ (line ∷ (rest ++ end)) ≡ lines ++ end
 next-whole lines front line rest end e = sym (append_assoc front (line ∷ rest) end) ∙ ap (λ (ls : List (List ℕ)). ls ++ end) (sym e)
 
 -- what was counted with one more answer
-pub counted : (total before after now next : ℕ) (t t' : Bool) → t ≡ t' → total ≡ before + now → now ≡ cond t 1 0 + next → after ≡ cond t' 1 0 + before → total ≡ after + next
+pub counted : (total before after now next : ℕ) (t t' : Bool) → t ≡ t' → total ≡ before + now → now ≡ cond t 1 0 + next → after ≡ cond t' 1 0
+    + before → total ≡ after + next
 counted total before after now next t t' e was step gained = let one : cond {A = ℕ} t 1 0 ≡ cond t' 1 0 = ap (λ t. cond t 1 0) e in omega arith
 
 -- an answer counts at most once
@@ -58,8 +70,12 @@ one-answer (item.Leap count leap) (Ok o) = omega arith
 one-answer (item.Leap count leap) (Err why) = omega arith
 
 -- behind the last item
-pub lines-done : (says : List Item → Stamp → List ℕ) (freq : ℕ) (accepted : List Item) (items : List ItemLine) (i : ℕ) (lines front : List (List ℕ)) → length items ≤ i → lines ≡ front ++ told says accepted (outcomes freq accepted (drop i items)) → front ≡ lines
-lines-done says freq accepted items i lines front h e = sym (e ∙ ap (λ (ls : List (List ℕ)). front ++ ls) (at_drop_all (λ xs. told says accepted (outcomes freq accepted xs)) items i h) ∙ append-nil front)
+pub lines-done : (says : List Item → Stamp → List ℕ) (freq : ℕ) (accepted : List Item) (items : List ItemLine) (i : ℕ)
+    (lines front : List (List ℕ)) → length items ≤ i → lines ≡ front ++ told says accepted (outcomes freq accepted (drop i items)) → front ≡ lines
+lines-done says freq accepted items i lines front h e = sym
+    (e ∙ ap (λ (ls : List (List ℕ)). front ++ ls) (at_drop_all (λ xs. told says accepted (outcomes freq accepted xs)) items i h) ∙ append-nil front)
 
-pub count-done : (p : Outcome → Bool) (freq : ℕ) (accepted : List Item) (items : List ItemLine) (i total now : ℕ) → length items ≤ i → total ≡ now + count_by p (outcomes freq accepted (drop i items)) → now ≡ total
-count-done p freq accepted items i total now h e = let none : count_by p (outcomes freq accepted (drop i items)) ≡ 0 = at_drop_all (λ xs. count_by p (outcomes freq accepted xs)) items i h in omega arith
+pub count-done : (p : Outcome → Bool) (freq : ℕ) (accepted : List Item) (items : List ItemLine) (i total now : ℕ) → length items ≤ i → total ≡ now
+    + count_by p (outcomes freq accepted (drop i items)) → now ≡ total
+count-done p freq accepted items i total now h e = let none : count_by p (outcomes freq accepted (drop i items)) ≡ 0 = at_drop_all
+    (λ xs. count_by p (outcomes freq accepted xs)) items i h in omega arith

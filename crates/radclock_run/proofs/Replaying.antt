@@ -45,14 +45,17 @@ mapped f (x ∷ xs) zero y at = (x, refl, get_or_from_slice_get (map f (x ∷ xs
 mapped f (x ∷ xs) (suc i) y at = mapped f xs i y at
 
 -- two lists are one where their members are
-same-map : {X Y Z : Type 0} (f : X → Z) (g : Y → Z) (xs : List X) (ys : List Y) → length xs ≡ length ys → ((i : ℕ) (x : X) (y : Y) → slice_get xs i ≡ Some x → slice_get ys i ≡ Some y → f x ≡ g y) → map f xs ≡ map g ys
+same-map : {X Y Z : Type 0} (f : X → Z) (g : Y → Z) (xs : List X) (ys : List Y) → length xs ≡ length ys
+    → ((i : ℕ) (x : X) (y : Y) → slice_get xs i ≡ Some x → slice_get ys i ≡ Some y → f x ≡ g y) → map f xs ≡ map g ys
 same-map f g [] [] many each = refl
 same-map f g [] (y ∷ ys) many each = absurd (omega arith)
 same-map f g (x ∷ xs) [] many each = absurd (omega arith)
-same-map f g (x ∷ xs) (y ∷ ys) many each = ap₂ (λ z (zs : List _). z ∷ zs) (each 0 x y refl refl) (same-map f g xs ys (omega arith) (λ i a b at there. each (suc i) a b at there))
+same-map f g (x ∷ xs) (y ∷ ys) many each = ap₂ (λ z (zs : List _). z ∷ zs) (each 0 x y refl refl)
+    (same-map f g xs ys (omega arith) (λ i a b at there. each (suc i) a b at there))
 
 -- logs of so many entries each
-all-entries : (logs : List (List Entry)) (reads : ℕ) → ((i : ℕ) (es : List Entry) → slice_get logs i ≡ Some es → length es ≡ reads) → length logs * reads ≡ entries_in logs
+all-entries : (logs : List (List Entry)) (reads : ℕ) → ((i : ℕ) (es : List Entry) → slice_get logs i ≡ Some es → length es ≡ reads) → length
+    logs * reads ≡ entries_in logs
 all-entries [] reads each = omega arith
 all-entries (es ∷ logs) reads each =
     let first = each 0 es refl in
@@ -60,17 +63,21 @@ all-entries (es ∷ logs) reads each =
     let e : length (es ∷ logs) ≡ 1 + length logs = omega arith in
     rw e (omega arith)
 
-module _ (freq : ℕ) (options : Options) (all : List Item) (plan : Plan) (before after : List ReadLog) (old new : PenShows) (ready : IsReadyFor freq options all plan before old) (played : Played plan.freq plan.options plan.steps.items before after old new) where
+module _ (freq : ℕ) (options : Options) (all : List Item) (plan : Plan) (before after : List ReadLog) (old new : PenShows)
+    (ready : IsReadyFor freq options all plan before old) (played : Played plan.freq plan.options plan.steps.items before after old new) where
   -- the play was that of these items
   play : Played freq options (steps_by freq options.ticks all) before after old new
   play =
       let p = ready.plan_is in
-      subst (λ ss. Played freq options ss before after old new) p.steps (subst (λ o. Played freq o plan.steps.items before after old new) p.options_is (subst (λ n. Played n plan.options plan.steps.items before after old new) p.freq_is played))
+      subst (λ ss. Played freq options ss before after old new) p.steps
+          (subst (λ o. Played freq o plan.steps.items before after old new) p.options_is
+          (subst (λ n. Played n plan.options plan.steps.items before after old new) p.freq_is played))
 
   all-kept : new.kept ≡ play.kept
   all-kept = play.pen ∙ ap (λ (ks : List Kept). ks ++ play.kept) ready.kept
 
-  kept-log : (i : ℕ) (k : Kept) → slice_get new.kept i ≡ Some k → (l : ReadLog) × (slice_get after i ≡ Some l) × IsKeptLog freq options (greatest (steps_by freq options.ticks all)) new.journal i l k
+  kept-log : (i : ℕ) (k : Kept) → slice_get new.kept i ≡ Some k → (l : ReadLog) × (slice_get after i ≡ Some l)
+      × IsKeptLog freq options (greatest (steps_by freq options.ticks all)) new.journal i l k
   kept-log i k at =
       let here : slice_get play.kept i ≡ Some k = ap (λ (ks : List Kept). slice_get ks i) (sym all-kept) ∙ at in
       let within = slice_get_within play.kept i k here in
@@ -106,7 +113,9 @@ module _ (freq : ℕ) (options : Options) (all : List Item) (plan : Plan) (befor
 
   pub replay-printed : options.readers ≤ 16 → options.reads ≤ 16384 → ArePrinted options new after
   replay-printed few_readers few_reads =
-      let same : entries_of after ≡ logs_of new = same-map (λ (l : ReadLog). l.entries.items) (λ (k : Kept). map entry_of k.entries) after new.kept (omega (arith, ap length all-kept, play.many, play.same)) (λ i l k at there. (play.each i l k at (ap (λ (ks : List Kept). slice_get ks i) (sym all-kept) ∙ there)).entries) in
+      let same : entries_of after ≡ logs_of new = same-map (λ (l : ReadLog). l.entries.items) (λ (k : Kept). map entry_of k.entries) after new.kept
+          (omega (arith, ap length all-kept, play.many, play.same))
+          (λ i l k at there. (play.each i l k at (ap (λ (ks : List Kept). slice_get ks i) (sym all-kept) ∙ there)).entries) in
       let each : (i : ℕ) (es : List Entry) → slice_get (entries_of after) i ≡ Some es → length es ≡ options.reads = λ i es at. (
       let there = ap (λ (ls : List (List Entry)). slice_get ls i) (sym same) ∙ at in
       let m = mapped (λ (k : Kept). map entry_of k.entries) new.kept i es there in
@@ -125,15 +134,21 @@ module _ (freq : ℕ) (options : Options) (all : List Item) (plan : Plan) (befor
       }
 
 -- new passes behind a fresh desk are all that were ever made
-first-made : (old mid : PenShows) (passes next : List _) (spare seen n : ℕ) → IsFresh old passes → mid ≡ record old { spare = spare } → next ≡ passes ++ new_passes mid.table mid.made seen n → next ≡ new_passes mid.table 0 seen n
-first-made old mid passes next spare seen n fresh reserved made = first-passes passes next mid.table mid.made seen n fresh.none (ap (λ (p : PenShows). p.made) reserved ∙ fresh.made) made
+first-made : (old mid : PenShows) (passes next : List _) (spare seen n : ℕ) → IsFresh old passes → mid ≡ record old { spare = spare } → next ≡ passes
+    ++ new_passes mid.table mid.made seen n → next ≡ new_passes mid.table 0 seen n
+first-made old mid passes next spare seen n fresh reserved made =
+    first-passes passes next mid.table mid.made seen n fresh.none (ap (λ (p : PenShows). p.made) reserved ∙ fresh.made) made
 
-pub as-many : (old mid : PenShows) (passes next : List _) (spare seen n : ℕ) → IsFresh old passes → mid ≡ record old { spare = spare } → next ≡ passes ++ new_passes mid.table mid.made seen n → length next ≡ n
-as-many old mid passes next spare seen n fresh reserved made = ap length (first-made old mid passes next spare seen n fresh reserved made) ∙ new-many mid.table 0 seen n
+pub as-many : (old mid : PenShows) (passes next : List _) (spare seen n : ℕ) → IsFresh old passes → mid ≡ record old { spare = spare }
+    → next ≡ passes ++ new_passes mid.table mid.made seen n → length next ≡ n
+as-many old mid passes next spare seen n fresh reserved made = ap length (first-made old mid passes next spare seen n fresh reserved made)
+    ∙ new-many mid.table 0 seen n
 
 -- all is ready: room was made behind a fresh desk, and then passes, which were given to the logs
-pub ready-for : (freq : ℕ) (options : Options) (all : List Item) (plan : Plan) (logs : List ReadLog) (old mid new : PenShows) (passes next : List _) (spare made : ℕ) → IsFresh old passes → old.kept ≡ [] → IsPlanFor freq options all plan → length plan.steps.items ≤ mid.spare
-    → mid ≡ record old { spare = spare } → new ≡ record mid { made = made } → next ≡ passes ++ new_passes mid.table mid.made (length mid.journal) plan.options.readers → AreOpened plan.options.reads next logs
+pub ready-for : (freq : ℕ) (options : Options) (all : List Item) (plan : Plan) (logs : List ReadLog) (old mid new : PenShows) (passes next : List _)
+    (spare made : ℕ) → IsFresh old passes → old.kept ≡ [] → IsPlanFor freq options all plan → length plan.steps.items ≤ mid.spare
+    → mid ≡ record old { spare = spare } → new ≡ record mid { made = made } → next ≡ passes
+        ++ new_passes mid.table mid.made (length mid.journal) plan.options.readers → AreOpened plan.options.reads next logs
     → IsReadyFor freq options all plan logs new
 ready-for freq options all plan logs old mid new passes next spare made fresh unused is room reserved grown behind opened =
     let readers = plan.options.readers in
@@ -142,7 +157,8 @@ ready-for freq options all plan logs old mid new passes next spare made fresh un
     let ready = new-ready mid.table seen readers plan.options.reads logs (subst (λ ps. AreOpened plan.options.reads ps logs) first opened) in
     record {
       plan_is = is;
-      logs_are = subst (λ id. AreReady id options.reads logs) (sym (ap (λ (p : PenShows). p.table) grown)) (subst (λ (o : Options). AreReady mid.table o.reads logs) is.options_is ready);
+      logs_are = subst (λ id. AreReady id options.reads logs) (sym (ap (λ (p : PenShows). p.table) grown))
+          (subst (λ (o : Options). AreReady mid.table o.reads logs) is.options_is ready);
       many = opened.many ∙ as-many old mid passes next spare seen readers fresh reserved behind ∙ ap (λ (o : Options). o.readers) is.options_is;
       spare = subst (λ n. length plan.steps.items ≤ n) (sym (ap (λ (p : PenShows). p.spare) grown)) room;
       journal = ap (λ (p : PenShows). p.journal) grown ∙ ap (λ (p : PenShows). p.journal) reserved ∙ fresh.journal;

@@ -29,14 +29,16 @@ use Rattle.radclock_run.proofs.Sound.{is-sound, not-done}
 use Rattle.radclock_run.proofs.Truth.{made-truth-of, truth-of}
 
 -- what a report leaves is the headline of a replay, and the desk of each other
-leaves-headline : (r : Report) (text : List ℕ) (told : Option Deviation) (old new : Desk) → Leaves r (freq_of_file text) (items_of_file text) old new → Headline (Some (command.Report r)) text told new.pen
+leaves-headline : (r : Report) (text : List ℕ) (told : Option Deviation) (old new : Desk) → Leaves r (freq_of_file text) (items_of_file text) old new
+    → Headline (Some (command.Report r)) text told new.pen
 leaves-headline report.Stamps text told old new leaves = tt
 leaves-headline report.Rtt text told old new leaves = tt
 leaves-headline report.Estimate text told old new leaves = tt
 leaves-headline (report.Ticks ticks) text told old new leaves = tt
 leaves-headline (report.Replay ticks readers reads back crank) text told old new leaves = leaves
 
-leaves-holds : (r : Report) (text : List ℕ) (old new : Desk) → Leaves r (freq_of_file text) (items_of_file text) old new → HoldsDone (Some (command.Report r)) old new
+leaves-holds : (r : Report) (text : List ℕ) (old new : Desk) → Leaves r (freq_of_file text) (items_of_file text) old new
+    → HoldsDone (Some (command.Report r)) old new
 leaves-holds report.Stamps text old new leaves = leaves
 leaves-holds report.Rtt text old new leaves = leaves
 leaves-holds report.Estimate text old new leaves = leaves
@@ -44,7 +46,8 @@ leaves-holds (report.Ticks ticks) text old new leaves = leaves
 leaves-holds (report.Replay ticks readers reads back crank) text old new leaves = tt
 
 -- the line of a stop is that of its status
-stopped-lines : (s : Stop) (asked : Option Command) (text : List ℕ) (told : Option Deviation) (pen : PenShows) → IsTaken s text → fault_text (fault_of s) ∷ [] ≡ lines_due asked text told pen (status_of s)
+stopped-lines : (s : Stop) (asked : Option Command) (text : List ℕ) (told : Option Deviation) (pen : PenShows) → IsTaken s text
+    → fault_text (fault_of s) ∷ [] ≡ lines_due asked text told pen (status_of s)
 stopped-lines stop.Memory asked text told pen is = refl
 stopped-lines (stop.Read taken) asked text told pen is = ap (λ n. fault_text (fault.Read n) ∷ []) is
 stopped-lines (stop.Fault f) asked text told pen is = refl
@@ -60,7 +63,8 @@ module _ {K : Type 0} (written : K → Option (List ℕ)) (faults : K → ℕ) (
   breaks-of : (old : K) (lines : List (List ℕ)) (new : K) → Broke written faults push old lines new → Breaks push old lines new
   breaks-of old lines new b = record { front = b.front; failed = b.failed; rest = b.rest; cut = b.cut; mid = b.mid; pushes = b.pushes; last = b.last }
 
-  by-lines : (old : K) (lines : List (List ℕ)) (due result : Status) (new : K) → EndsWith written faults push old lines due result new → (answer : Result (Unit {0}) Failed) × ByLines push old lines answer new × (result ≡ ends_with due answer)
+  by-lines : (old : K) (lines : List (List ℕ)) (due result : Status) (new : K) → EndsWith written faults push old lines due result new
+      → (answer : Result (Unit {0}) Failed) × ByLines push old lines answer new × (result ≡ ends_with due answer)
   by-lines old lines due result new ends =
       elim ends [
         | inl whole ↦ (Ok tt, whole.1.pushes, whole.0)
@@ -68,13 +72,16 @@ module _ {K : Type 0} (written : K → Option (List ℕ)) (faults : K → ℕ) (
       ]
 
   -- pieces that were written, or whose push failed
-  pub by-writes : (old : K) (pieces : List (List ℕ)) (answer : Result (Unit {0}) Failed) (new : K) → Writes written faults push old pieces answer new → ByLines push old pieces answer new
+  pub by-writes : (old : K) (pieces : List (List ℕ)) (answer : Result (Unit {0}) Failed) (new : K) → Writes written faults push old pieces answer new
+      → ByLines push old pieces answer new
   by-writes old pieces (Ok o) new wrote = wrote.pushes
   by-writes old pieces (Err e) new broke = breaks-of old pieces new broke
 
 module _ {S K : Type 0} (pull : PullGives S) (written : K → Option (List ℕ)) (faults : K → ℕ) (push : PushGives K) where
   -- a run that makes a file
-  pub run-made : (number count : ℕ) (source : S) (sink sink' : K) (desk : Desk) (result : Status) → EndsWith written faults push sink (file_lines_of (made_list number count)) status.Done result sink' → Ran pull (ByLines push) (Some (command.Make number count)) source source sink sink' desk desk result
+  pub run-made : (number count : ℕ) (source : S) (sink sink' : K) (desk : Desk) (result : Status) → EndsWith written faults push sink
+      (file_lines_of (made_list number count)) status.Done result sink'
+      → Ran pull (ByLines push) (Some (command.Make number count)) source source sink sink' desk desk result
   run-made number count source sink sink' desk result ends =
       let out = by-lines written faults push sink _ status.Done result sink' ends in
       record {
@@ -93,7 +100,8 @@ module _ {S K : Type 0} (pull : PullGives S) (written : K → Option (List ℕ))
       }
 
   -- words that are no line
-  pub run-no-line : (source : S) (sink sink' : K) (desk : Desk) (result : Status) → EndsWith written faults push sink (fault_text fault.Usage ∷ []) status.Usage result sink' → Ran pull (ByLines push) None source source sink sink' desk desk result
+  pub run-no-line : (source : S) (sink sink' : K) (desk : Desk) (result : Status) → EndsWith written faults push sink (fault_text fault.Usage ∷ [])
+      status.Usage result sink' → Ran pull (ByLines push) None source source sink sink' desk desk result
   run-no-line source sink sink' desk result ends =
       let out = by-lines written faults push sink _ status.Usage result sink' ends in
       record {
@@ -112,8 +120,10 @@ module _ {S K : Type 0} (pull : PullGives S) (written : K → Option (List ℕ))
       }
 
   -- memory was wanting for the words
-  short-as : (asked : Option Command) (s : Option Stop) (source : S) (sink sink' : K) (desk : Desk) (result : Status) → IsDue asked s status.NoMemory → IsRead pull asked source [] s source → HoldsShort asked desk desk
-      → EndsWith written faults push sink (fault_text fault.Memory ∷ []) status.NoMemory result sink' → Ran pull (ByLines push) asked source source sink sink' desk desk result
+  short-as : (asked : Option Command) (s : Option Stop) (source : S) (sink sink' : K) (desk : Desk) (result : Status) → IsDue asked s status.NoMemory
+      → IsRead pull asked source [] s source → HoldsShort asked desk desk
+      → EndsWith written faults push sink (fault_text fault.Memory ∷ []) status.NoMemory result sink'
+          → Ran pull (ByLines push) asked source source sink sink' desk desk result
   short-as asked s source sink sink' desk result due read holds ends =
       let out = by-lines written faults push sink _ status.NoMemory result sink' ends in
       record {
@@ -131,14 +141,23 @@ module _ {S K : Type 0} (pull : PullGives S) (written : K → Option (List ℕ))
         holds = holds;
       }
 
-  pub run-short : (asked : Option Command) (source : S) (sink sink' : K) (desk : Desk) (result : Status) → desk.pen.journal ≡ cold ∷ [] → EndsWith written faults push sink (fault_text fault.Memory ∷ []) status.NoMemory result sink' → Ran pull (ByLines push) asked source source sink sink' desk desk result
-  run-short None source sink sink' desk result fresh ends = short-as None None source sink sink' desk result (inr (refl, refl)) (record { none = refl; same = refl }, refl) refl ends
-  run-short (Some (command.Report r)) source sink sink' desk result fresh ends = short-as (Some (command.Report r)) (Some stop.Memory) source sink sink' desk result (inl refl) (inr (record { none = refl; same = refl }, refl)) fresh ends
-  run-short (Some (command.Make number count)) source sink sink' desk result fresh ends = short-as (Some (command.Make number count)) None source sink sink' desk result (inr (refl, refl)) (record { none = refl; same = refl }, refl) refl ends
-  run-short (Some (command.Run number count ideal)) source sink sink' desk result fresh ends = short-as (Some (command.Run number count ideal)) None source sink sink' desk result (inr (refl, refl)) (record { none = refl; same = refl }, refl) fresh ends
+  pub run-short : (asked : Option Command) (source : S) (sink sink' : K) (desk : Desk) (result : Status) → desk.pen.journal ≡ cold ∷ []
+      → EndsWith written faults push sink (fault_text fault.Memory ∷ []) status.NoMemory result sink'
+      → Ran pull (ByLines push) asked source source sink sink' desk desk result
+  run-short None source sink sink' desk result fresh ends = short-as None None source sink sink' desk result (inr (refl, refl))
+      (record { none = refl; same = refl }, refl) refl ends
+  run-short (Some (command.Report r)) source sink sink' desk result fresh ends =
+      short-as (Some (command.Report r)) (Some stop.Memory) source sink sink' desk result (inl refl)
+      (inr (record { none = refl; same = refl }, refl)) fresh ends
+  run-short (Some (command.Make number count)) source sink sink' desk result fresh ends =
+      short-as (Some (command.Make number count)) None source sink sink' desk result (inr (refl, refl)) (record { none = refl; same = refl }, refl) refl ends
+  run-short (Some (command.Run number count ideal)) source sink sink' desk result fresh ends =
+      short-as (Some (command.Run number count ideal)) None source sink sink' desk result (inr (refl, refl))
+      (record { none = refl; same = refl }, refl) fresh ends
 
   -- a run over made stamps
-  pub run-summarised : (a : Asked) (source : S) (sink sink' : K) (desk desk' : Desk) (result : Status) → desk.pen.journal ≡ cold ∷ [] → Summarises written faults push a sink desk result sink' desk' → Ran pull (ByLines push) (Some (run_by a)) source source sink sink' desk desk' result
+  pub run-summarised : (a : Asked) (source : S) (sink sink' : K) (desk desk' : Desk) (result : Status) → desk.pen.journal ≡ cold ∷ []
+      → Summarises written faults push a sink desk result sink' desk' → Ran pull (ByLines push) (Some (run_by a)) source source sink sink' desk desk' result
   run-summarised a source sink sink' desk desk' result fresh ends =
       elim ends [
         | inl done ↦
@@ -176,8 +195,10 @@ module _ {S K : Type 0} (pull : PullGives S) (written : K → Option (List ℕ))
       ]
 
   -- a report on a text that was read to its end
-  pub run-finished : (r : Report) (text : List ℕ) (source source' : S) (sink sink' : K) (desk desk' : Desk) (result : Status) → desk.pen.journal ≡ cold ∷ [] → ReadsTo pull (takes_few r) source text None source' → stop_of_file (takes_few r) text ≡ None
-      → Finishes written faults push r (head_of_file text) (items_of_file text) sink desk result sink' desk' → Ran pull (ByLines push) (Some (command.Report r)) source source' sink sink' desk desk' result
+  pub run-finished : (r : Report) (text : List ℕ) (source source' : S) (sink sink' : K) (desk desk' : Desk) (result : Status) → desk.pen.journal
+      ≡ cold ∷ [] → ReadsTo pull (takes_few r) source text None source' → stop_of_file (takes_few r) text ≡ None
+      → Finishes written faults push r (head_of_file text) (items_of_file text) sink desk result sink' desk'
+          → Ran pull (ByLines push) (Some (command.Report r)) source source' sink sink' desk desk' result
   run-finished r text source source' sink sink' desk desk' result fresh reads none ends =
       elim ends [
         | inl done ↦
@@ -215,8 +236,10 @@ module _ {S K : Type 0} (pull : PullGives S) (written : K → Option (List ℕ))
       ]
 
   -- one whose text is stopped
-  pub run-stopped : (r : Report) (s : Stop) (text : List ℕ) (source source' : S) (sink sink' : K) (desk : Desk) (result : Status) → desk.pen.journal ≡ cold ∷ [] → ReadsTo pull (takes_few r) source text (Some s) source' → IsTaken s text
-      → EndsWith written faults push sink (fault_text (fault_of s) ∷ []) (status_of s) result sink' → Ran pull (ByLines push) (Some (command.Report r)) source source' sink sink' desk desk result
+  pub run-stopped : (r : Report) (s : Stop) (text : List ℕ) (source source' : S) (sink sink' : K) (desk : Desk) (result : Status) → desk.pen.journal
+      ≡ cold ∷ [] → ReadsTo pull (takes_few r) source text (Some s) source' → IsTaken s text
+      → EndsWith written faults push sink (fault_text (fault_of s) ∷ []) (status_of s) result sink'
+          → Ran pull (ByLines push) (Some (command.Report r)) source source' sink sink' desk desk result
   run-stopped r s text source source' sink sink' desk result fresh reads taken ends =
       let out = by-lines written faults push sink _ (status_of s) result sink' ends in
       record {

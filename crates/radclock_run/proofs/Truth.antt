@@ -56,7 +56,8 @@ file-ranged text sound =
     record { low = freq.low; high = freq.high; timed = items-timed (given_of_file text) (file-in-range text) }
 
 -- a reading by a true tick, where it may be read
-reading-true : (w : World) (ticks : List Hands) (n count : ℕ) (h : Hands) (k : Kind) → IsTrueTick w h → IsPlaced k ticks n count h → IsCovered w k count (number_of (value_of h k count)) (bound_of h k count)
+reading-true : (w : World) (ticks : List Hands) (n count : ℕ) (h : Hands) (k : Kind) → IsTrueTick w h → IsPlaced k ticks n count h
+    → IsCovered w k count (number_of (value_of h k count)) (bound_of h k count)
 reading-true w ticks n count h kind.Abs is place = is kind.Abs count place.reached
 reading-true w ticks n count h kind.Fast is place = is kind.Fast count (sym place)
 reading-true w ticks n count h kind.Diff is place = is kind.Diff count tt
@@ -70,7 +71,8 @@ log-true w ticks es are log n r h here at sync =
     let is = log.each n (entry.Read r) here in
     let same : is.hands ≡ h = (let e = sym is.tick ∙ at in cc) in
     let covered : IsCovered w r.kind r.count (number_of (value_of is.hands r.kind r.count)) (bound_of is.hands r.kind r.count) =
-    reading-true w ticks r.tick r.count is.hands r.kind (are r.tick is.hands is.tick (subst (λ (h : Hands). h.kstatus.unsync ≡ false) (sym same) sync)) is.place in
+    reading-true w ticks r.tick r.count is.hands r.kind (are r.tick is.hands is.tick
+        (subst (λ (h : Hands). h.kstatus.unsync ≡ false) (sym same) sync)) is.place in
     subst (λ b. IsCovered w r.kind r.count (number_of r.time) b) (sym is.bound)
     (subst (λ (t : Bintime). IsCovered w r.kind r.count (number_of t) (bound_of is.hands r.kind r.count)) (sym is.time) covered)
 
@@ -82,14 +84,16 @@ with-leaps-true : (w : World) (f : Full) → IsTrueEstimate w (without_leaps f) 
 with-leaps-true w f is = record { rate = is.rate; spread = is.spread; later = is.later }
 
 -- the estimates at accepted stamps
-all-true : (w : World) (freq : ℕ) (all : List Item) → 1000000 ≤ freq → freq ≤ 16000000000 → IsFit freq w → AreAcceptedItems freq all → All (LiesIn w) (stamps_of all) → All (IsTrueEstimate w) (fulls_of (events_of freq all))
+all-true : (w : World) (freq : ℕ) (all : List Item) → 1000000 ≤ freq → freq ≤ 16000000000 → IsFit freq w → AreAcceptedItems freq all
+    → All (LiesIn w) (stamps_of all) → All (IsTrueEstimate w) (fulls_of (events_of freq all))
 all-true w freq all low high fit accepted lie =
     let stamps = estimates-true freq w (stamps_of all) low high fit accepted.stamps lie in
     All-weaker (λ f. IsTrueEstimate w (without_leaps f)) (IsTrueEstimate w) (with-leaps-true w) (fulls_of (events_of freq all))
     (All-unmap (IsTrueEstimate w) without_leaps (fulls_of (events_of freq all)) (subst (All (IsTrueEstimate w)) (sym (fold-told freq all)) stamps))
 
 -- a replay of accepted items whose stamps lie in a world
-replay-true : (w : World) (options : Options) (freq : ℕ) (all : List Item) (pen : PenShows) → 1000000 ≤ freq → freq ≤ 16000000000 → IsFit freq w → AreAcceptedItems freq all → All (LiesIn w) (stamps_of all) → IsReplayed options freq all pen → IsTrueReplay w freq all pen
+replay-true : (w : World) (options : Options) (freq : ℕ) (all : List Item) (pen : PenShows) → 1000000 ≤ freq → freq ≤ 16000000000 → IsFit freq w
+    → AreAcceptedItems freq all → All (LiesIn w) (stamps_of all) → IsReplayed options freq all pen → IsTrueReplay w freq all pen
 replay-true w options freq all pen low high fit accepted lie is =
     let are = readings-true freq options.ticks options.crank w all pen.journal low high fit accepted lie is.journal in
     record {
@@ -102,10 +106,12 @@ replay-true w options freq all pen low high fit accepted lie is =
 pub made-truth-of : (a : Asked) (told : Option Deviation) (pen : PenShows) → IsRunOf a told pen → MadeTruth a pen
 made-truth-of a told pen made =
     let holds : (w : World) → IsFit frequency w → All (LiesIn w) (run_stamps a) → IsTrueReplay w frequency (run_items a) pen =
-    λ w fit lie. replay-true w run_options frequency (run_items a) pen (omega arith) (omega arith) fit (stamps-are-items frequency (run_stamps a) made.accepted) (subst (All (LiesIn w)) (sym (stamps-back (run_stamps a))) lie) made.replayed in
+    λ w fit lie. replay-true w run_options frequency (run_items a) pen (omega arith) (omega arith) fit
+        (stamps-are-items frequency (run_stamps a) made.accepted) (subst (All (LiesIn w)) (sym (stamps-back (run_stamps a))) lie) made.replayed in
     record { holds = holds; made = holds made_world made-fits (made-lie a.number a.count) }
 
-module _ (w : World) (freq : ℕ) (items : List ItemLine) (ranged : IsRanged freq items) (fit : IsFit freq w) (lie : All (LiesIn w) (stamps_of (accepted_among freq [] items))) where
+module _ (w : World) (freq : ℕ) (items : List ItemLine) (ranged : IsRanged freq items) (fit : IsFit freq w)
+    (lie : All (LiesIn w) (stamps_of (accepted_among freq [] items))) where
   accepted : AreAcceptedItems freq (accepted_among freq [] items)
   accepted = items-all freq [] (map (λ x. x.item) items) (items-none freq) (All-map IsItemInRange (λ x. x.item) items ranged.timed)
 
@@ -114,8 +120,10 @@ module _ (w : World) (freq : ℕ) (items : List ItemLine) (ranged : IsRanged fre
   tells-true asked.Rtt old new leaves = tt
   tells-true asked.Estimate old new leaves = all-true w freq (accepted_among freq [] items) ranged.low ranged.high fit accepted lie
   tells-true (asked.Ticks ticks) old new leaves = plays-true freq ticks w (accepted_among freq [] items) ranged.low ranged.high fit accepted lie
-  tells-true (asked.Replay ticks readers reads back crank) old new leaves = replay-true w _ freq (accepted_among freq [] items) new.pen ranged.low ranged.high fit accepted lie leaves
+  tells-true (asked.Replay ticks readers reads back crank) old new leaves =
+      replay-true w _ freq (accepted_among freq [] items) new.pen ranged.low ranged.high fit accepted lie leaves
 
 -- what a report on a text in the grammar tells
-pub truth-of : (r : Report) (text : List ℕ) (desk desk' : Desk) → fault_of_file text ≡ None → Leaves r (freq_of_file text) (items_of_file text) desk desk' → Truth (Some (command.Report r)) text desk'.pen
+pub truth-of : (r : Report) (text : List ℕ) (desk desk' : Desk) → fault_of_file text ≡ None
+    → Leaves r (freq_of_file text) (items_of_file text) desk desk' → Truth (Some (command.Report r)) text desk'.pen
 truth-of r text desk desk' sound leaves w fit lie = tells-true w (freq_of_file text) (items_of_file text) (file-ranged text sound) fit lie r desk desk' leaves

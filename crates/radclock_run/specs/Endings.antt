@@ -27,7 +27,8 @@ Leaves asked.Stamps freq items old new = new ≡ old
 Leaves asked.Rtt freq items old new = new ≡ old
 Leaves asked.Estimate freq items old new = new ≡ old
 Leaves (asked.Ticks ticks) freq items old new = new ≡ old
-Leaves (asked.Replay ticks readers reads back crank) freq items old new = IsReplayed (record { ticks = ticks; readers = readers; reads = reads; back = back; crank = crank }) freq (accepted_among freq [] items) new.pen
+Leaves (asked.Replay ticks readers reads back crank) freq items old new =
+    IsReplayed (record { ticks = ticks; readers = readers; reads = reads; back = back; crank = crank }) freq (accepted_among freq [] items) new.pen
 
 -- what a stop leaves of it. Memory may be wanting where passes were made already, but no tick
 abbrev pub LeavesAt : Stop → Desk → Desk → Type 0
@@ -38,17 +39,21 @@ LeavesAt (stop.Large l) old new = new ≡ old
 
 -- the lines that were to be written are, and the run ends as it was to, or a push failed, which
 -- was the last one
-abbrev pub EndsWith : {K : Type 0} (written : K → Option (List ℕ)) (faults : K → ℕ) (push : K → List ℕ → Result (Unit {0}) Failed → K → Type 0) → K → List (List ℕ) → Status → Status → K → Type 0
-EndsWith written faults push old lines due result new = ((result ≡ due) × Wrote written faults push old lines new) ⊎ ((result ≡ status.WriteFault) × Broke written faults push old lines new)
+abbrev pub EndsWith : {K : Type 0} (written : K → Option (List ℕ)) (faults : K → ℕ) (push : K → List ℕ → Result (Unit {0}) Failed → K → Type 0) → K
+    → List (List ℕ) → Status → Status → K → Type 0
+EndsWith written faults push old lines due result new = ((result ≡ due) × Wrote written faults push old lines new)
+    ⊎ ((result ≡ status.WriteFault) × Broke written faults push old lines new)
 
 -- with the report that is asked for a run ends as it is to, or for want of memory
-abbrev pub Finishes : {K : Type 0} (written : K → Option (List ℕ)) (faults : K → ℕ) (push : K → List ℕ → Result (Unit {0}) Failed → K → Type 0) → Report → Head → List ItemLine → K → Desk → Status → K → Desk → Type 0
+abbrev pub Finishes : {K : Type 0} (written : K → Option (List ℕ)) (faults : K → ℕ)
+    (push : K → List ℕ → Result (Unit {0}) Failed → K → Type 0) → Report → Head → List ItemLine → K → Desk → Status → K → Desk → Type 0
 Finishes written faults push r head items old desk result new desk' =
     (Leaves r head.freq items desk desk' × EndsWith written faults push old (report_of r head items desk'.pen) status.Done result new)
     ⊎ (LeavesAt stop.Memory desk desk' × EndsWith written faults push old (fault_text fault.Memory ∷ []) status.NoMemory result new)
 
 -- and so it does with that on a run over made stamps
-abbrev pub Summarises : {K : Type 0} (written : K → Option (List ℕ)) (faults : K → ℕ) (push : K → List ℕ → Result (Unit {0}) Failed → K → Type 0) → Asked → K → Desk → Status → K → Desk → Type 0
+abbrev pub Summarises : {K : Type 0} (written : K → Option (List ℕ)) (faults : K → ℕ)
+    (push : K → List ℕ → Result (Unit {0}) Failed → K → Type 0) → Asked → K → Desk → Status → K → Desk → Type 0
 Summarises written faults push a old desk result new desk' =
     ((told : Option Deviation) × IsRunOf a told desk'.pen × EndsWith written faults push old (run_text a told desk'.pen) status.Done result new)
     ⊎ (LeavesAt stop.Memory desk desk' × EndsWith written faults push old (fault_text fault.Memory ∷ []) status.NoMemory result new)

@@ -10,7 +10,8 @@ use Rattle.radclock_run.specs.declared.status.Status.TheVariants as status
 
 -- a run by the words behind the first, the program's name, on a desk that nothing was done with, whose lines went out in
 -- blocks
-pub record HasRun {S K : Type 0} (pull : PullGives S) (push : PushGives K) (words : List (List ℕ)) (source source' : S) (sink sink' : K) (result : Status) : Type 0 where
+pub record HasRun {S K : Type 0} (pull : PullGives S) (push : PushGives K) (words : List (List ℕ)) (source source' : S) (sink sink' : K)
+    (result : Status) : Type 0 where
   pub desk : Desk
   pub fresh : IsFresh desk.pen desk.passes.items
   pub desk' : Desk

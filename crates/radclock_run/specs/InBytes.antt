@@ -40,9 +40,12 @@ pub record WasRead (left left' written written' : Option (List ℕ)) (desk desk'
 -- what was read and appended: a report on the input, or a made file or the report on a run over made
 -- stamps, and then nothing was read
 pub data WasDone (left left' written written' : Option (List ℕ)) (desk desk' : Desk) (asked : Option Command) : Type 0 where
-  reported : (r : Report) → asked ≡ Some (command.Report r) → WasRead left left' written written' desk desk' r → WasDone left left' written written' desk desk' asked
-  filed : (number count : ℕ) → asked ≡ Some (command.Make number count) → left' ≡ left → desk' ≡ desk → Appends written written' (concat (file_lines_of (made_list number count))) → WasDone left left' written written' desk desk' asked
-  summarised : (a : Asked) → asked ≡ Some (run_by a) → left' ≡ left → (told : Option Deviation) → IsRunOf a told desk'.pen → Appends written written' (concat (run_text a told desk'.pen)) → WasDone left left' written written' desk desk' asked
+  reported : (r : Report) → asked ≡ Some (command.Report r) → WasRead left left' written written' desk desk' r
+      → WasDone left left' written written' desk desk' asked
+  filed : (number count : ℕ) → asked ≡ Some (command.Make number count) → left' ≡ left → desk' ≡ desk
+      → Appends written written' (concat (file_lines_of (made_list number count))) → WasDone left left' written written' desk desk' asked
+  summarised : (a : Asked) → asked ≡ Some (run_by a) → left' ≡ left → (told : Option Deviation) → IsRunOf a told desk'.pen
+      → Appends written written' (concat (run_text a told desk'.pen)) → WasDone left left' written written' desk desk' asked
 
 -- What a replay printed and left
 pub record HeadlineInBytes (left left' written written' : Option (List ℕ)) (options : Options) (pen : PenShows) : Type 0 where
@@ -91,4 +94,5 @@ pub record TruthInBytes (left left' written written' : Option (List ℕ)) (r : R
   pub ended : IsAtEnd left'
   pub printed : Appends written written' (concat (report_of r (head_of_file text) (items_of_file text) pen))
   -- in each world that fits the frequency, and in which the accepted stamps lie, it is true
-  pub holds : (w : World) → IsFit (freq_of_file text) w → All (LiesIn w) (stamps_of (accepted_among (freq_of_file text) [] (items_of_file text))) → TellsTrue w r (freq_of_file text) (accepted_among (freq_of_file text) [] (items_of_file text)) pen
+  pub holds : (w : World) → IsFit (freq_of_file text) w → All (LiesIn w) (stamps_of (accepted_among (freq_of_file text) [] (items_of_file text)))
+      → TellsTrue w r (freq_of_file text) (accepted_among (freq_of_file text) [] (items_of_file text)) pen

@@ -77,7 +77,8 @@ pub record KeepsItem (old new : StampFile) (was is : Quota) (x : ItemLine) : Typ
   pub items : new.items.items ≡ old.items.items ++ x ∷ []
   pub few : length new.items.items ≤ most_items
   pub same : is.limited ≡ was.limited
-  pub counts : was.limited ≡ true → (accepted : List Item) → Counts was accepted → Counts is (accepted_with accepted x.item (accept_item old.head.freq accepted x.item))
+  pub counts : was.limited ≡ true → (accepted : List Item) → Counts was accepted
+      → Counts is (accepted_with accepted x.item (accept_item old.head.freq accepted x.item))
 
 -- a file has as many items as it may
 pub record HasNoRoom (s : Stop) (file : StampFile) : Type 0 where

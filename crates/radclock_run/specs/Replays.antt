@@ -86,7 +86,8 @@ pub record IsReplayed (options : Options) (freq : ℕ) (all : List Item) (pen : 
 -- each reading of the absolute clock or of an interval in a log is off by at most its bound, unless its tick is marked
 -- unsynchronised; nothing is said of the other clocks
 abbrev pub AreTrueReadings : World → List Hands → List Entry → Type 0
-AreTrueReadings w ticks es = (n : ℕ) (r : Reading) (h : Hands) → slice_get es n ≡ Some (entry.Read r) → slice_get ticks r.tick ≡ Some h → h.kstatus.unsync ≡ false → IsCovered w r.kind r.count (number_of r.time) r.bound
+AreTrueReadings w ticks es = (n : ℕ) (r : Reading) (h : Hands) → slice_get es n ≡ Some (entry.Read r) → slice_get ticks r.tick ≡ Some h
+    → h.kstatus.unsync ≡ false → IsCovered w r.kind r.count (number_of r.time) r.bound
 
 -- what a replay of these items tells is true: the estimates at their stamps, the ticks, and such readings of each log
 pub record IsTrueReplay (w : World) (freq : ℕ) (all : List Item) (pen : PenShows) : Type 0 where

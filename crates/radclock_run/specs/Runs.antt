@@ -146,14 +146,16 @@ Headline (Some (command.Report report.Stamps)) text told pen = ⊤
 Headline (Some (command.Report report.Rtt)) text told pen = ⊤
 Headline (Some (command.Report report.Estimate)) text told pen = ⊤
 Headline (Some (command.Report (report.Ticks ticks))) text told pen = ⊤
-Headline (Some (command.Report (report.Replay ticks readers reads back crank))) text told pen = IsReplayed (record { ticks = ticks; readers = readers; reads = reads; back = back; crank = crank }) (freq_of_file text) (accepted_of_file text) pen
+Headline (Some (command.Report (report.Replay ticks readers reads back crank))) text told pen =
+    IsReplayed (record { ticks = ticks; readers = readers; reads = reads; back = back; crank = crank }) (freq_of_file text) (accepted_of_file text) pen
 Headline (Some (command.Make number count)) text told pen = ⊤
 Headline (Some (command.Run number count ideal)) text told pen = IsRunOf (record { number = number; count = count; ideal = ideal }) told pen
 
 -- The truth: what was told is true in each world that fits the frequency and in which the accepted stamps lie
 abbrev pub Truth : Option Command → List ℕ → PenShows → Type 0
 Truth None text pen = ⊤
-Truth (Some (command.Report r)) text pen = (w : World) → IsFit (freq_of_file text) w → All (LiesIn w) (stamps_of (accepted_of_file text)) → TellsTrue w r (freq_of_file text) (accepted_of_file text) pen
+Truth (Some (command.Report r)) text pen = (w : World) → IsFit (freq_of_file text) w → All (LiesIn w) (stamps_of (accepted_of_file text))
+    → TellsTrue w r (freq_of_file text) (accepted_of_file text) pen
 Truth (Some (command.Make number count)) text pen = ⊤
 Truth (Some (command.Run number count ideal)) text pen = MadeTruth (record { number = number; count = count; ideal = ideal }) pen
 
@@ -187,7 +189,8 @@ Holds asked status.NoMemory old new = HoldsShort asked old new
 Holds asked (status.TooLarge l) old new = new ≡ old
 
 -- A run by this command, over one text
-pub record Ran {S K : Type 0} (pull : PullGives S) (writes : Writing K) (asked : Option Command) (source source' : S) (sink sink' : K) (desk desk' : Desk) (result : Status) : Type 0 where
+pub record Ran {S K : Type 0} (pull : PullGives S) (writes : Writing K) (asked : Option Command) (source source' : S) (sink sink' : K)
+    (desk desk' : Desk) (result : Status) : Type 0 where
   -- the bytes that the pulls gave, and what stopped the input
   pub text : List ℕ
   pub stopped : Option Stop

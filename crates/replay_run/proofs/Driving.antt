@@ -36,7 +36,8 @@ pub record Drives (steps : List PlanStep) (old new : PenShows) (k : ℕ) : Type 
 cold-journal : IsJournal (cold ∷ [])
 cold-journal = record { first = refl; next = λ n h next at then. absurd (let within = slice_get_within (cold ∷ []) (n + 1) next then in omega arith) }
 
-pub drives-first : (steps : List PlanStep) (old : PenShows) → old.journal ≡ cold ∷ [] → old.top ≡ 0 → length steps ≤ old.spare → PlanFits 0 0 steps → Drives steps old old 0
+pub drives-first : (steps : List PlanStep) (old : PenShows) → old.journal ≡ cold ∷ [] → old.top ≡ 0 → length steps ≤ old.spare → PlanFits 0 0 steps
+    → Drives steps old old 0
 drives-first steps old journal top spare plan = record {
   journal = subst IsJournal (sym journal) cold-journal;
   many = ap length journal;
@@ -55,14 +56,16 @@ newest-push : (ticks : List Hands) (next : Hands) → newest (ticks ++ next ∷ 
 newest-push ticks next = get_or_push ticks next cold _ (omega (arith, length_push ticks next))
 
 -- the next step, and the rest behind it
-pub rest-fits : (steps : List PlanStep) (old new : PenShows) (k : ℕ) (d : PlanStep) → k < length steps → Drives steps old new k → PlanFits new.top (newest new.journal).est.update_ffcount (get_or steps k d ∷ drop (k + 1) steps)
+pub rest-fits : (steps : List PlanStep) (old new : PenShows) (k : ℕ) (d : PlanStep) → k < length steps → Drives steps old new k
+    → PlanFits new.top (newest new.journal).est.update_ffcount (get_or steps k d ∷ drop (k + 1) steps)
 rest-fits steps old new k d within drives = subst (PlanFits new.top (newest new.journal).est.update_ffcount) (drop_more steps k d within) drives.fits
 
 -- a tick of the longer journal
 tick-of : (out : Bool) (steps : List PlanStep) (k : ℕ) (d : PlanStep) (ticks : List Hands) (counter : ℕ)
     → length ticks ≡ 1 + k → ((i : ℕ) (s : PlanStep) (h : Hands) → i < k → slice_get steps i ≡ Some s → slice_get ticks (i + 1) ≡ Some h → IsTickOf out s h)
     → (get_or steps k d).to ≤ counter → (out ≡ false → counter ≡ (get_or steps k d).to)
-    → (i : ℕ) (s : PlanStep) (h : Hands) → slice_get steps i ≡ Some s → IsPlace ticks (wind_of (newest ticks) counter (get_or steps k d).order) (i + 1) h → IsTickOf out s h
+    → (i : ℕ) (s : PlanStep) (h : Hands) → slice_get steps i ≡ Some s
+        → IsPlace ticks (wind_of (newest ticks) counter (get_or steps k d).order) (i + 1) h → IsTickOf out s h
 tick-of out steps k d ticks counter many each reached still i s h at (stays w here) = each i s h (omega arith) at here
 tick-of out steps k d ticks counter many each reached still i s h at (comes e is) =
     let here : i ≡ k = omega arith in
@@ -75,7 +78,8 @@ tick-of out steps k d ticks counter many each reached still i s h at (comes e is
       exact = λ none. count ∙ still none ∙ to;
     }
 
-pub drives-next : (steps : List PlanStep) (old mid new : PenShows) (k : ℕ) (d : PlanStep) → k < length steps → Drives steps old mid k → StepsBy (get_or steps k d) mid new → Drives steps old new (k + 1)
+pub drives-next : (steps : List PlanStep) (old mid new : PenShows) (k : ℕ) (d : PlanStep) → k < length steps → Drives steps old mid k
+    → StepsBy (get_or steps k d) mid new → Drives steps old new (k + 1)
 drives-next steps old mid new k d within drives step =
     let s = get_or steps k d in
     let h = wind_of (newest mid.journal) step.count s.order in
@@ -83,12 +87,14 @@ drives-next steps old mid new k d within drives step =
     let both = rest-fits steps old mid k d within drives in
     let now : PenShows = record mid { journal = mid.journal ++ h ∷ []; counters = step.counters; top = s.to; met = step.met; spare = mid.spare - 1 } in
     let on = fits-on (newest mid.journal) step.count s.order step.fits in
-    let update : (newest (mid.journal ++ h ∷ [])).est.update_ffcount ≡ update_after (newest mid.journal).est.update_ffcount s.order = ap (λ (h : Hands). h.est.update_ffcount) (newest-push mid.journal h) ∙ update-wound (newest mid.journal) step.count s.order in
+    let update : (newest (mid.journal ++ h ∷ [])).est.update_ffcount ≡ update_after (newest mid.journal).est.update_ffcount s.order = ap
+        (λ (h : Hands). h.est.update_ffcount) (newest-push mid.journal h) ∙ update-wound (newest mid.journal) step.count s.order in
     let all : greatest (drop k steps) ≡ max s.to (greatest rest) = ap greatest (drop_more steps k d within) in
     let made : Drives steps old now (k + 1) = record {
       journal = (holds-wound mid.journal step.count s.order (record { journal = drives.journal; reached = step.later; most = on.most }) step.fits).journal;
       many = omega (arith, length_push mid.journal h, drives.many);
-      each = λ i t g low at here. tick-of old.out steps k d mid.journal step.count drives.many drives.each step.reached (λ none. step.still (drives.out ∙ none)) i t g at (place mid.journal h (i + 1) g here);
+      each = λ i t g low at here. tick-of old.out steps k d mid.journal step.count drives.many drives.each step.reached
+          (λ none. step.still (drives.out ∙ none)) i t g at (place mid.journal h (i + 1) g here);
       fits = subst (λ n. PlanFits s.to n rest) (sym update) both.1;
       highest = omega (arith, drives.highest, both.0.later);
       room = drives.room;

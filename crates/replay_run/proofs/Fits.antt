@@ -33,7 +33,8 @@ between-within ticks from to m order few =
     omega arith
 
 -- steps at which the clock goes on fit, where what follows fits whenever they end
-between-fits : (ticks from to update n m before : ℕ) (rest : List PlanStep) → from ≤ to → to < 2 ^ 62 → m + n ≤ ticks + 1 → before ≤ count_between ticks from to m
+between-fits : (ticks from to update n m before : ℕ) (rest : List PlanStep) → from ≤ to → to < 2 ^ 62 → m + n ≤ ticks + 1
+    → before ≤ count_between ticks from to m
     → ((count : ℕ) → count ≤ to → PlanFits count update rest) → PlanFits before update (map (plain_step ticks from to) (range_with_len m n) ++ rest)
 between-fits ticks from to update zero m before rest order most few later then =
     let end = between-within ticks from to m order (omega arith) in
@@ -41,7 +42,8 @@ between-fits ticks from to update zero m before rest order most few later then =
 between-fits ticks from to update (suc n) m before rest order most few later then =
     let end = between-within ticks from to m order (omega arith) in
     let next = between-later ticks from to m in
-    (record { later = later; most = omega arith; sane = refl; in_time = tt }, between-fits ticks from to update n (m + 1) (count_between ticks from to m) rest order most (omega arith) next then)
+    (record { later = later; most = omega arith; sane = refl; in_time = tt },
+        between-fits ticks from to update n (m + 1) (count_between ticks from to m) rest order most (omega arith) next then)
 
 -- the events behind the first one
 tail-turn : (freq : ℕ) (e : Event) (es : List Event) → AreInTurn freq (e ∷ es) → AreInTurn freq es
@@ -76,13 +78,15 @@ event-in_time : (freq update : ℕ) (e : Event) → IsNewer update e → IsInTim
 event-in_time freq update (event.Estimate f) newer = (newer, omega arith)
 event-in_time freq update (event.Set count at) newer = omega arith
 
-event-fits : (freq : ℕ) (e : Event) (es : List Event) (before update : ℕ) → AreInTurn freq (e ∷ es) → before ≤ count_of_event e → IsNewer update e → StepFits before update (event_step freq e)
+event-fits : (freq : ℕ) (e : Event) (es : List Event) (before update : ℕ) → AreInTurn freq (e ∷ es) → before ≤ count_of_event e → IsNewer update e
+    → StepFits before update (event_step freq e)
 event-fits freq e es before update are later newer =
     let sane : is_sane (order_of_event freq e) ≡ true = are.sane 0 e (omega arith) in
     record { later = later; most = count-most freq e sane; sane = sane; in_time = event-in_time freq update e newer }
 
 -- the clock was last wound before the first event, and has an older estimate
-from-fits : (freq : ℕ) (e : Event) (es : List Event) (ticks before update : ℕ) → AreInTurn freq (e ∷ es) → before ≤ count_of_event e → IsNewer update e → PlanFits before update (steps_from freq (e ∷ es) ticks)
+from-fits : (freq : ℕ) (e : Event) (es : List Event) (ticks before update : ℕ) → AreInTurn freq (e ∷ es) → before ≤ count_of_event e
+    → IsNewer update e → PlanFits before update (steps_from freq (e ∷ es) ticks)
 from-fits freq e [] ticks before update are later newer = (event-fits freq e [] before update are later newer, tt)
 from-fits freq e (next ∷ es) ticks before update are later newer =
     let from : ℕ = count_of_event e in
@@ -90,7 +94,9 @@ from-fits freq e (next ∷ es) ticks before update are later newer =
     let rises : from < to = are.rising 0 1 e (omega arith) (omega arith) in
     let most : to < 2 ^ 62 = count-most freq next (are.sane 1 e (omega arith)) in
     let rest : List PlanStep = steps_between ticks from to ++ steps_from freq (next ∷ es) ticks in
-    let fits : PlanFits from from rest = between-fits ticks from to from ticks 1 from (steps_from freq (next ∷ es) ticks) (omega arith) most (omega arith) (omega arith) (λ count within. from-fits freq next es ticks count from (tail-turn freq e (next ∷ es) are) within (newer-by from next rises)) in
+    let fits : PlanFits from from rest = between-fits ticks from to from ticks 1 from (steps_from freq (next ∷ es) ticks) (omega arith) most
+        (omega arith) (omega arith) (λ count within. from-fits freq next es ticks count from (tail-turn freq e (next ∷ es) are) within
+        (newer-by from next rises)) in
     (event-fits freq e (next ∷ es) before update are later newer, subst (λ u. PlanFits from u rest) (sym (update-is freq update e)) fits)
 
 reset-sane : (freq : ℕ) → 1000000 ≤ freq → is_sane_estimate (reset_estimate start_time 0 freq) ≡ true
@@ -103,14 +109,17 @@ reset-sane freq low =
 pub plan-fits : (freq : ℕ) (es : List Event) (ticks : ℕ) → 1000000 ≤ freq → AreInTurn freq es → PlanFits 0 0 (plan_of freq es ticks)
 unfolding plan_of
 plan-fits freq [] ticks low are = (record { later = omega arith; most = omega arith; sane = reset-sane freq low; in_time = omega arith }, tt)
-plan-fits freq (e ∷ es) ticks low are = (record { later = omega arith; most = omega arith; sane = reset-sane freq low; in_time = omega arith }, from-fits freq e es ticks 0 0 are (omega arith) (first-newer e (are.late 0 e (omega arith))))
+plan-fits freq (e ∷ es) ticks low are = (record { later = omega arith; most = omega arith; sane = reset-sane freq low; in_time = omega arith },
+    from-fits freq e es ticks 0 0 are (omega arith) (first-newer e (are.late 0 e (omega arith))))
 
 -- so does that for the events of a daemon
-pub of-plan-fits : (freq : ℕ) (events : List Event) (items : List Item) (ticks : ℕ) → 1000000 ≤ freq → AreOf events freq items → PlanFits 0 0 (plan_of freq events ticks)
+pub of-plan-fits : (freq : ℕ) (events : List Event) (items : List Item) (ticks : ℕ) → 1000000 ≤ freq → AreOf events freq items
+    → PlanFits 0 0 (plan_of freq events ticks)
 of-plan-fits freq events items ticks low are = plan-fits freq events ticks low (of-turn events freq items low are)
 
 -- the counts of an event and of the next one
-pub counts-rise : (freq : ℕ) (events : List Event) (items : List Item) (i to : ℕ) (d : Event) (s : PlanStep) → 1000000 ≤ freq → AreOf events freq items → i + 1 < length events → s ≡ event_step freq (get_or events i d) → to ≡ count_of_event (get_or events (i + 1) d) → s.to ≤ to
+pub counts-rise : (freq : ℕ) (events : List Event) (items : List Item) (i to : ℕ) (d : Event) (s : PlanStep) → 1000000 ≤ freq
+    → AreOf events freq items → i + 1 < length events → s ≡ event_step freq (get_or events i d) → to ≡ count_of_event (get_or events (i + 1) d) → s.to ≤ to
 counts-rise freq events items i to d s low are within is is_to =
     let rises = of-rises events freq items i d low are within in
     let from = ap (λ (s : PlanStep). s.to) is in

@@ -21,7 +21,8 @@ use Rattle.replay_run.specs.declared.log.ReadLog.{ReadLog}
 use Rattle.replay_run.proofs.Targets.{to-greatest}
 
 -- where all counts are exact, none is above the greatest
-exact-most : (steps : List PlanStep) (ticks : List Hands) → slice_get ticks 0 ≡ Some cold → length ticks ≡ 1 + length steps → AreTicksOf false steps ticks → IsMost (greatest steps) ticks
+exact-most : (steps : List PlanStep) (ticks : List Hands) → slice_get ticks 0 ≡ Some cold → length ticks ≡ 1 + length steps
+    → AreTicksOf false steps ticks → IsMost (greatest steps) ticks
 exact-most steps ticks first many each zero h at =
     let same : h ≡ cold = sym (get_or_from_slice_get ticks 0 h h at) ∙ get_or_from_slice_get ticks 0 cold h first in
     let e = ap (λ (h : Hands). h.count) same in
@@ -44,12 +45,14 @@ pub record IsRested (steps : List PlanStep) (beside : Bool) (old new : PenShows)
   pub made : new.made ≡ old.made
   pub kept : new.kept ≡ old.kept
 
-rested-alone : (steps : List PlanStep) (beside : Bool) (old lent driven new : PenShows) → old.out ≡ false → beside ≡ false → lent ≡ old → IsDriven steps lent driven → new ≡ driven → IsRested steps beside old new
+rested-alone : (steps : List PlanStep) (beside : Bool) (old lent driven new : PenShows) → old.out ≡ false → beside ≡ false → lent ≡ old
+    → IsDriven steps lent driven → new ≡ driven → IsRested steps beside old new
 rested-alone steps beside old lent driven new still alone same d is =
     let out : lent.out ≡ false = ap (λ (p : PenShows). p.out) same ∙ still in
     let each : AreTicksOf beside steps driven.journal = subst (λ (b : Bool). AreTicksOf b steps driven.journal) (out ∙ sym alone) d.each in
     let made : IsRested steps beside old driven = record {
-      journal = record { journal = d.journal; many = d.many; each = each; most = exact-most steps driven.journal d.journal.first d.many (subst (λ (b : Bool). AreTicksOf b steps driven.journal) out d.each) };
+      journal = record { journal = d.journal; many = d.many; each = each;
+          most = exact-most steps driven.journal d.journal.first d.many (subst (λ (b : Bool). AreTicksOf b steps driven.journal) out d.each) };
       top = d.top;
       spare = d.spare ∙ ap (λ (p : PenShows). p.spare - length steps) same;
       out = d.out ∙ out;
@@ -59,7 +62,9 @@ rested-alone steps beside old lent driven new still alone same d is =
     } in
     subst (IsRested steps beside old) (sym is) made
 
-rested-beside : (steps : List PlanStep) (beside : Bool) (old lent driven new : PenShows) (crank turned : CrankSees) → beside ≡ true → Lends old lent crank → turned ≡ record crank { top = max crank.top (greatest steps); met = turned.met } → IsDriven steps lent driven → new ≡ record driven { top = max driven.top turned.top; out = false } → IsMost new.top new.journal → IsRested steps beside old new
+rested-beside : (steps : List PlanStep) (beside : Bool) (old lent driven new : PenShows) (crank turned : CrankSees) → beside ≡ true
+    → Lends old lent crank → turned ≡ record crank { top = max crank.top (greatest steps); met = turned.met } → IsDriven steps lent driven
+    → new ≡ record driven { top = max driven.top turned.top; out = false } → IsMost new.top new.journal → IsRested steps beside old new
 rested-beside steps beside old lent driven new crank turned wanted l raised d is most =
     let out : lent.out ≡ true = ap (λ (p : PenShows). p.out) l.after in
     let each : AreTicksOf beside steps driven.journal = subst (λ (b : Bool). AreTicksOf b steps driven.journal) (out ∙ sym wanted) d.each in
@@ -78,15 +83,18 @@ rested-beside steps beside old lent driven new crank turned wanted l raised d is
       kept = ap (λ (p : PenShows). p.kept) is ∙ d.kept ∙ ap (λ (p : PenShows). p.kept) l.after;
     }
 
-pub rested : (steps : List PlanStep) (beside : Bool) (old lent driven new : PenShows) (before after : Option CrankSees) → old.out ≡ false → IsLentFor beside old before lent → Turned steps before after → IsDriven steps lent driven → IsBack after driven new → IsRested steps beside old new
+pub rested : (steps : List PlanStep) (beside : Bool) (old lent driven new : PenShows) (before after : Option CrankSees) → old.out ≡ false
+    → IsLentFor beside old before lent → Turned steps before after → IsDriven steps lent driven → IsBack after driven new → IsRested steps beside old new
 rested steps beside old lent driven new None None still lends turns d back = rested-alone steps beside old lent driven new still lends.0 lends.1 d back
 rested steps beside old lent driven new None (Some c) still lends turns d back = absurd (cc)
 rested steps beside old lent driven new (Some c) None still lends turns d back = absurd turns
-rested steps beside old lent driven new (Some c) (Some t) still lends turns d back = rested-beside steps beside old lent driven new c t lends.0 lends.1 turns d back.0 back.1
+rested steps beside old lent driven new (Some c) (Some t) still lends turns d back =
+    rested-beside steps beside old lent driven new c t lends.0 lends.1 turns d back.0 back.1
 
 -- the log of a reader, and what the pen keeps of its pass
 kept-log : (freq : ℕ) (options : Options) (most i : ℕ) (before mid after : ReadLog) (p : PenShows) (k : Kept)
-    → before.reader ≡ i → HasRun freq options.back options.reads before mid → IsKeptOf p mid after k → p.out ≡ false → p.top ≡ most → IsKeptLog freq options most p.journal i after k
+    → before.reader ≡ i → HasRun freq options.back options.reads before mid → IsKeptOf p mid after k → p.out ≡ false → p.top ≡ most
+        → IsKeptLog freq options most p.journal i after k
 kept-log freq options most i before mid after p k number ran kept out top =
     let same : ran.pass ≡ kept.pass = (let e = sym ran.has ∙ kept.had in cc) in
     let is : kept_of ran.pass.view ≡ k = ap (λ (q : PassSees). kept_of q.view) same ∙ sym kept.is in
@@ -125,7 +133,9 @@ played freq options steps before mid after old rest new numbered as_many still_m
           let is = takes.each i l k here in
           let run = ran i l within in
           let reader : (get_or before i l).reader ≡ i = numbered i (get_or before i l) (slice_get-get_or before i l within) in
-          let log = kept-log freq options (greatest steps) i (get_or before i l) (get_or mid i l) (get_or after i l) rest k reader run is rested.out rested.top in
-          let last : IsKeptLog freq options (greatest steps) rest.journal i l k = subst (λ (q : ReadLog). IsKeptLog freq options (greatest steps) rest.journal i q k) (get_or_from_slice_get after i l l at) log in
+          let log = kept-log freq options (greatest steps) i (get_or before i l) (get_or mid i l) (get_or after i l) rest k reader run is rested.out
+              rested.top in
+          let last : IsKeptLog freq options (greatest steps) rest.journal i l k = subst
+              (λ (q : ReadLog). IsKeptLog freq options (greatest steps) rest.journal i q k) (get_or_from_slice_get after i l l at) log in
           subst (λ (ts : List Hands). IsKeptLog freq options (greatest steps) ts i l k) (sym journal) last;
     }

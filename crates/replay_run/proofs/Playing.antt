@@ -17,9 +17,11 @@ in-time h count to (order.Take e) is reached = (let newer = is.0 in let not_late
 in-time h count to (order.Reset e) is reached = grind (arith, nat_tests)
 
 -- a step that fits may be played at a count that has reached it
-pub step-fits : (h : Hands) (count before : ℕ) (s : PlanStep) → StepFits before h.est.update_ffcount s → s.to ≤ count → h.count ≤ count → count < 2 ^ 62 → fits h count s.order ≡ true
+pub step-fits : (h : Hands) (count before : ℕ) (s : PlanStep) → StepFits before h.est.update_ffcount s → s.to ≤ count → h.count ≤ count
+    → count < 2 ^ 62 → fits h count s.order ≡ true
 step-fits h count before s step reached later most =
-    and_both _ _ (and_both _ _ (and_both _ _ step.sane (grind (arith, nat_tests))) (grind (arith, nat_tests))) (in-time h count s.to s.order step.in_time reached)
+    and_both _ _ (and_both _ _ (and_both _ _ step.sane (grind (arith, nat_tests))) (grind (arith, nat_tests)))
+        (in-time h count s.to s.order step.in_time reached)
 
 -- the count of the estimate after a windup
 pub update-wound : (h : Hands) (count : ℕ) (o : Order) → (wind_of h count o).est.update_ffcount ≡ update_after h.est.update_ffcount o

@@ -53,18 +53,22 @@ reads-first freq back items pass none unused = record {
   small = omega arith;
 }
 
-answers-at : (freq : ℕ) (back : Bool) (items : List Entry) (k : ℕ) (e : Entry) → length items ≡ k → ((i : ℕ) (d : Entry) → slice_get items i ≡ Some d → AnswersNext freq back (take i items) i d) → AnswersNext freq back items k e
+answers-at : (freq : ℕ) (back : Bool) (items : List Entry) (k : ℕ) (e : Entry) → length items ≡ k
+    → ((i : ℕ) (d : Entry) → slice_get items i ≡ Some d → AnswersNext freq back (take i items) i d) → AnswersNext freq back items k e
     → (i : ℕ) (d : Entry) → IsPlace items e i d → AnswersNext freq back (take i (items ++ e ∷ [])) i d
-answers-at freq back items k e many each next i d (stays w here) = subst (λ (es : List Entry). AnswersNext freq back es i d) (sym (take-append-le i items (e ∷ []) (omega arith))) (each i d here)
+answers-at freq back items k e many each next i d (stays w here) =
+    subst (λ (es : List Entry). AnswersNext freq back es i d) (sym (take-append-le i items (e ∷ []) (omega arith))) (each i d here)
 answers-at freq back items k e many each next i d (comes here is) =
     let front : items ≡ take i (items ++ e ∷ []) = sym (ap (λ n. take n (items ++ e ∷ [])) here ∙ take-append_seam items (e ∷ [])) in
     let at : k ≡ i = omega arith in
-    subst (λ (es : List Entry). AnswersNext freq back es i d) front (subst (λ n. AnswersNext freq back items n d) at (subst (AnswersNext freq back items k) (sym is) next))
+    subst (λ (es : List Entry). AnswersNext freq back es i d) front
+        (subst (λ n. AnswersNext freq back items n d) at (subst (AnswersNext freq back items k) (sym is) next))
 
 abbrev AnswersGiven : ℕ → Bool → ℕ → ℕ → Entry → Type 0
 AnswersGiven freq back k n e = IsAnswerTo (kind_at back k) (given_for freq n (kind_at back k)) e
 
-reads-next : (freq : ℕ) (back : Bool) (items : List Entry) (old new : PassSees) (k latest : ℕ) (e : Entry) → Reads freq back items old k latest → Adds old new (ask_for freq latest (kind_at back k)) e → Reads freq back (items ++ e ∷ []) new (k + 1) (latest_with latest e)
+reads-next : (freq : ℕ) (back : Bool) (items : List Entry) (old new : PassSees) (k latest : ℕ) (e : Entry) → Reads freq back items old k latest
+    → Adds old new (ask_for freq latest (kind_at back k)) e → Reads freq back (items ++ e ∷ []) new (k + 1) (latest_with latest e)
 reads-next freq back items old new k latest e reads adds =
     let answers = answers-ask (ask_for freq latest (kind_at back k)) new.view.loads e adds.reads in
     let next : AnswersNext freq back items k e = subst (λ n. AnswersGiven freq back k n e) reads.latest_is answers in
@@ -76,11 +80,14 @@ reads-next freq back items old new k latest e reads adds =
       small = small-with _ e latest reads.small adds.by;
     }
 
-pub reads-more : (freq : ℕ) (back : Bool) (items items' : List Entry) (old new : PassSees) (k latest latest' : ℕ) (kind : Kind) (e : Entry) → kind ≡ kind_at back k → items' ≡ items ++ e ∷ [] → latest' ≡ latest_with latest e → Reads freq back items old k latest → Adds old new (ask_for freq latest kind) e → Reads freq back items' new (k + 1) latest'
+pub reads-more : (freq : ℕ) (back : Bool) (items items' : List Entry) (old new : PassSees) (k latest latest' : ℕ) (kind : Kind) (e : Entry) → kind
+    ≡ kind_at back k → items' ≡ items ++ e ∷ [] → latest' ≡ latest_with latest e → Reads freq back items old k latest
+    → Adds old new (ask_for freq latest kind) e → Reads freq back items' new (k + 1) latest'
 reads-more freq back items items' old new k latest latest' kind e is grown later reads adds =
     let asked = subst (λ (k : Kind). Adds old new (ask_for freq latest k) e) is adds in
     let next = reads-next freq back items old new k latest e reads asked in
     subst (λ (es : List Entry). Reads freq back es new (k + 1) latest') (sym grown) (subst (Reads freq back (items ++ e ∷ []) new (k + 1)) (sym later) next)
 
-pub reads-done : (freq : ℕ) (back : Bool) (items : List Entry) (pass : PassSees) (k latest : ℕ) → Reads freq back items pass k latest → AreAttempts freq back k items
+pub reads-done : (freq : ℕ) (back : Bool) (items : List Entry) (pass : PassSees) (k latest : ℕ) → Reads freq back items pass k latest
+    → AreAttempts freq back k items
 reads-done freq back items pass k latest reads = record { many = reads.many; each = reads.each }

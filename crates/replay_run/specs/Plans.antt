@@ -38,7 +38,8 @@ steps_between ticks from to = map (plain_step ticks from to) (range_with_len 1 t
 abbrev pub steps_from : ℕ → List Event → ℕ → List PlanStep
 steps_from freq [] ticks = []
 steps_from freq (e ∷ []) ticks = event_step freq e ∷ []
-steps_from freq (e ∷ (next ∷ es)) ticks = event_step freq e ∷ (steps_between ticks (count_of_event e) (count_of_event next) ++ steps_from freq (next ∷ es) ticks)
+steps_from freq (e ∷ (next ∷ es)) ticks = event_step freq e
+    ∷ (steps_between ticks (count_of_event e) (count_of_event next) ++ steps_from freq (next ∷ es) ticks)
 
 -- the plan for a counter's frequency, the events, and how many plain steps stand between two
 unfoldable pub plan_of : ℕ → List Event → ℕ → List PlanStep

@@ -88,4 +88,5 @@ pub record Played (freq : ℕ) (options : Options) (steps : List PlanStep) (befo
   pub pen : new.kept ≡ old.kept ++ kept
   pub many : length kept ≡ length before
   pub same : length after ≡ length before
-  pub each : (i : ℕ) (l : ReadLog) (k : Kept) → slice_get after i ≡ Some l → slice_get kept i ≡ Some k → IsKeptLog freq options (greatest steps) new.journal i l k
+  pub each : (i : ℕ) (l : ReadLog) (k : Kept) → slice_get after i ≡ Some l → slice_get kept i ≡ Some k
+      → IsKeptLog freq options (greatest steps) new.journal i l k

@@ -43,7 +43,8 @@ version_part version = mark_text (codes " version 2") (version == 2)
 
 -- how many ticks, readers and attempts of each a replay has, and which flags
 unfoldable pub options_part : ℕ → ℕ → ℕ → Bool → Bool → List ℕ
-options_part ticks readers reads back crank = codes " ticks " ++ decimal ticks ++ codes " readers " ++ decimal readers ++ codes " reads " ++ decimal reads ++ mark_text (codes " back") back ++ mark_text (codes " crank") crank
+options_part ticks readers reads back crank = codes " ticks " ++ decimal ticks ++ codes " readers " ++ decimal readers ++ codes " reads "
+    ++ decimal reads ++ mark_text (codes " back") back ++ mark_text (codes " crank") crank
 
 -- the first line of a report
 unfoldable pub head_text : ReportHead → List ℕ
@@ -51,8 +52,10 @@ head_text (head.Stamps freq version) = codes "report stamps freq " ++ decimal fr
 head_text (head.Rtt freq version) = codes "report rtt freq " ++ decimal freq ++ version_part version ++ codes "\n"
 head_text (head.Estimate freq version) = codes "report estimate freq " ++ decimal freq ++ version_part version ++ codes "\n"
 head_text (head.Ticks freq ticks version) = codes "report ticks freq " ++ decimal freq ++ codes " ticks " ++ decimal ticks ++ version_part version ++ codes "\n"
-head_text (head.Replay freq ticks readers reads back crank version) = codes "report replay freq " ++ decimal freq ++ options_part ticks readers reads back crank ++ version_part version ++ codes "\n"
-head_text (head.Run number count ideal) = codes "report run number " ++ decimal number ++ codes " count " ++ decimal count ++ mark_text (codes " ideal") ideal ++ codes "\n"
+head_text (head.Replay freq ticks readers reads back crank version) = codes "report replay freq " ++ decimal freq
+    ++ options_part ticks readers reads back crank ++ version_part version ++ codes "\n"
+head_text (head.Run number count ideal) = codes "report run number " ++ decimal number ++ codes " count " ++ decimal count
+    ++ mark_text (codes " ideal") ideal ++ codes "\n"
 
 -- what a stamp of version 2 says of its server: the stratum, and what it says of a leap second
 unfoldable pub server_part : ℕ → Stamp → List ℕ
@@ -60,7 +63,8 @@ server_part version s = mark_text (codes " " ++ decimal s.stratum ++ codes " " +
 
 -- the line of an accepted stamp, with its round trip
 unfoldable pub stamp_text : ℕ → Stamp → ℕ → List ℕ
-stamp_text i s version = codes "stamp " ++ decimal i ++ codes " " ++ decimal s.ta ++ codes " " ++ time_text s.tb ++ codes " " ++ time_text s.te ++ codes " " ++ decimal s.tf ++ codes " " ++ decimal (s.tf - s.ta) ++ server_part version s ++ codes "\n"
+stamp_text i s version = codes "stamp " ++ decimal i ++ codes " " ++ decimal s.ta ++ codes " " ++ time_text s.tb ++ codes " " ++ time_text s.te
+    ++ codes " " ++ decimal s.tf ++ codes " " ++ decimal (s.tf - s.ta) ++ server_part version s ++ codes "\n"
 
 -- 1 where it is so, and 0 where it is not
 abbrev pub flag_text : Bool → List ℕ
@@ -68,7 +72,8 @@ flag_text b = if b then codes "1" else codes "0"
 
 -- the line of an accepted stamp with its round trip, and what is said of the base
 unfoldable pub base_text : ℕ → ℕ → Base → List ℕ
-base_text i rtt b = codes "base " ++ decimal i ++ codes " " ++ decimal rtt ++ codes " " ++ decimal b.base ++ codes " " ++ decimal b.start ++ codes " " ++ flag_text b.shifted ++ codes "\n"
+base_text i rtt b = codes "base " ++ decimal i ++ codes " " ++ decimal rtt ++ codes " " ++ decimal b.base ++ codes " " ++ decimal b.start
+    ++ codes " " ++ flag_text b.shifted ++ codes "\n"
 
 -- the letters of the marks that are set, or a dash
 abbrev pub marks_text : Marks → List ℕ
@@ -82,11 +87,13 @@ letter_text letter b = if b then letter else codes "-"
 
 -- an estimate: the time at a count, the period, their errors, and the marks
 unfoldable pub time_part : Estimate → List ℕ
-time_part e = decimal e.update_ffcount ++ codes " " ++ time_text e.update_time ++ codes " " ++ decimal e.period ++ codes " " ++ decimal e.errb_abs ++ codes " " ++ decimal e.errb_rate ++ codes " " ++ marks_text e.status
+time_part e = decimal e.update_ffcount ++ codes " " ++ time_text e.update_time ++ codes " " ++ decimal e.period ++ codes " " ++ decimal e.errb_abs
+    ++ codes " " ++ decimal e.errb_rate ++ codes " " ++ marks_text e.status
 
 -- what stands behind it: the spread, the bounds of the period, and the flags
 unfoldable pub spread_part : Full → List ℕ
-spread_part f = decimal f.spread ++ codes " " ++ decimal f.rate.low ++ codes " " ++ decimal f.rate.high ++ codes " " ++ letter_text (codes "S") f.shifted ++ letter_text (codes "L") f.local ++ letter_text (codes "P") f.predicted
+spread_part f = decimal f.spread ++ codes " " ++ decimal f.rate.low ++ codes " " ++ decimal f.rate.high ++ codes " "
+    ++ letter_text (codes "S") f.shifted ++ letter_text (codes "L") f.local ++ letter_text (codes "P") f.predicted
 
 -- leap seconds: when the next one is due, how many there were, and which it is
 unfoldable pub leap_part : Estimate → List ℕ
@@ -98,7 +105,8 @@ told_leaps_part version e = mark_text (codes " " ++ leap_part e) (version == 2)
 
 -- the line of an accepted stamp with its estimate
 unfoldable pub estimate_text : ℕ → Full → ℕ → List ℕ
-estimate_text i f version = codes "estimate " ++ decimal i ++ codes " " ++ time_part f.est ++ codes " " ++ spread_part f ++ told_leaps_part version f.est ++ codes "\n"
+estimate_text i f version = codes "estimate " ++ decimal i ++ codes " " ++ time_part f.est ++ codes " " ++ spread_part f
+    ++ told_leaps_part version f.est ++ codes "\n"
 
 -- the line of an accepted set, with its count and its time
 unfoldable pub set_text : ℕ → Bintime → List ℕ
@@ -118,11 +126,13 @@ how_name how.Reset = codes "reset"
 -- where the clocks stand: how they came there, the count, the absolute and the uninterrupted clock
 -- with its slope, the boot time, and the marks
 unfoldable pub clock_part : Hands → List ℕ
-clock_part h = how_name h.how ++ codes " " ++ decimal h.count ++ codes " " ++ time_text h.time ++ codes " " ++ time_text h.lerp ++ codes " " ++ decimal h.period_lerp ++ codes " " ++ time_text h.boot ++ codes " " ++ marks_text h.kstatus
+clock_part h = how_name h.how ++ codes " " ++ decimal h.count ++ codes " " ++ time_text h.time ++ codes " " ++ time_text h.lerp ++ codes " "
+    ++ decimal h.period_lerp ++ codes " " ++ time_text h.boot ++ codes " " ++ marks_text h.kstatus
 
 -- the estimate that they go by
 unfoldable pub given_part : Estimate → List ℕ
-given_part e = time_text e.update_time ++ codes " " ++ decimal e.update_ffcount ++ codes " " ++ decimal e.period ++ codes " " ++ decimal e.errb_abs ++ codes " " ++ decimal e.errb_rate ++ codes " " ++ marks_text e.status
+given_part e = time_text e.update_time ++ codes " " ++ decimal e.update_ffcount ++ codes " " ++ decimal e.period ++ codes " " ++ decimal e.errb_abs
+    ++ codes " " ++ decimal e.errb_rate ++ codes " " ++ marks_text e.status
 
 -- the line of a tick of a journal
 unfoldable pub tick_text : ℕ → Hands → List ℕ
@@ -162,12 +172,14 @@ attempt_part reader k = decimal reader ++ codes " " ++ decimal k ++ codes " "
 
 -- a reading: its kind, its tick, the count that it is at, the time, and the bound
 unfoldable pub reading_part : Reading → List ℕ
-reading_part r = kind_name r.kind ++ codes " " ++ decimal r.tick ++ codes " " ++ decimal r.count ++ codes " " ++ time_text r.time ++ codes " " ++ decimal r.bound
+reading_part r = kind_name r.kind ++ codes " " ++ decimal r.tick ++ codes " " ++ decimal r.count ++ codes " " ++ time_text r.time ++ codes " "
+    ++ decimal r.bound
 
 -- the line of an attempt of a reader, both counted from 0: what the attempt came to
 unfoldable pub entry_text : ℕ → ℕ → Entry → List ℕ
 entry_text reader k (entry.Read r) = codes "read " ++ attempt_part reader k ++ reading_part r ++ codes "\n"
-entry_text reader k (entry.Again kind first last) = codes "again " ++ attempt_part reader k ++ kind_name kind ++ codes " " ++ decimal first ++ codes " " ++ decimal last ++ codes "\n"
+entry_text reader k (entry.Again kind first last) = codes "again " ++ attempt_part reader k ++ kind_name kind ++ codes " " ++ decimal first
+    ++ codes " " ++ decimal last ++ codes "\n"
 entry_text reader k (entry.TooOld count oldest) = codes "old " ++ attempt_part reader k ++ decimal count ++ codes " " ++ decimal oldest ++ codes "\n"
 entry_text reader k (entry.Ahead count at) = codes "ahead " ++ attempt_part reader k ++ decimal count ++ codes " " ++ decimal at ++ codes "\n"
 
@@ -178,7 +190,8 @@ count_text word (Some n) = word ++ decimal n
 
 -- the line of a summary
 unfoldable pub summary_text : Summary → List ℕ
-summary_text s = codes "summary accepted " ++ decimal s.accepted ++ codes " refused " ++ decimal s.refused ++ codes " shifts " ++ decimal s.shifts ++ codes " predicted " ++ decimal s.predicted ++ codes " local " ++ decimal s.local ++ codes "\n"
+summary_text s = codes "summary accepted " ++ decimal s.accepted ++ codes " refused " ++ decimal s.refused ++ codes " shifts " ++ decimal s.shifts
+    ++ codes " predicted " ++ decimal s.predicted ++ codes " local " ++ decimal s.local ++ codes "\n"
 
 -- the line of a tick, with its distance from the truth and the bound that is told of it
 unfoldable pub ideal_text : ℕ → ℕ → ℕ → List ℕ
@@ -186,7 +199,8 @@ ideal_text tick distance bound = codes "ideal " ++ decimal tick ++ codes " " ++ 
 
 -- the last line of a report
 unfoldable pub end_text : EndCounts → List ℕ
-end_text e = codes "end accepted " ++ decimal e.accepted ++ codes " refused " ++ decimal e.refused ++ count_text (codes " ticks ") e.ticks ++ count_text (codes " entries ") e.entries ++ codes "\n"
+end_text e = codes "end accepted " ++ decimal e.accepted ++ codes " refused " ++ decimal e.refused ++ count_text (codes " ticks ") e.ticks
+    ++ count_text (codes " entries ") e.entries ++ codes "\n"
 
 abbrev pub why_name : Why → List ℕ
 why_name why.Head = codes "head"

@@ -21,7 +21,8 @@ fold-min-le m (n ∷ ns) = omega (arith, fold-min-le (min m n) ns)
 
 fold-min-all : (m : ℕ) (all : List Stamp) → All (λ s. fold min m (map trip all) ≤ trip s) all
 fold-min-all m [] = All-nil (λ s. m ≤ trip s)
-fold-min-all m (s ∷ ss) = All-cons (λ other. fold min (min m (trip s)) (map trip ss) ≤ trip other) s ss (omega (arith, fold-min-le (min m (trip s)) (map trip ss))) (fold-min-all (min m (trip s)) ss)
+fold-min-all m (s ∷ ss) = All-cons (λ other. fold min (min m (trip s)) (map trip ss) ≤ trip other) s ss
+    (omega (arith, fold-min-le (min m (trip s)) (map trip ss))) (fold-min-all (min m (trip s)) ss)
 
 least-all : (all : List Stamp) → All (λ s. least_of (map trip all) ≤ trip s) all
 least-all [] = All-nil (λ s. 0 ≤ trip s)
@@ -66,7 +67,8 @@ fold-min-ge b m (n ∷ ns) head tail =
 least-ge : (b : ℕ) (all : List Stamp) → 0 < length all → All (λ s. b ≤ trip s) all → b ≤ least_of (map trip all)
 least-ge b [] some are = absurd (omega arith)
 least-ge b (s ∷ ss) some are = fold-min-ge b (trip s) (map trip ss) (All-head (λ s. b ≤ trip s) s ss are) (λ k d here.
-    subst (λ n. b ≤ n) (sym (get_or-map trip ss k s d (omega (arith, length-map ss trip)))) (All-tail (λ s. b ≤ trip s) s ss are k s (omega (arith, length-map ss trip))))
+    subst (λ n. b ≤ n) (sym (get_or-map trip ss k s d (omega (arith, length-map ss trip))))
+        (All-tail (λ s. b ≤ trip s) s ss are k s (omega (arith, length-map ss trip))))
 
 -- the first of least has the least round trip
 least-is : (all : List Stamp) (s : Stamp) → IsFirstLeast all s → least_of (map trip all) ≡ trip s
@@ -84,7 +86,8 @@ first_least-found all s is =
     let here : get_or all is.place s ≡ s = get_or_from_slice_get all is.place s s is.there in
     let p : Stamp → Bool = λ t. trip t == least_of (map trip all) in
     let first : position_or_len p all ≡ is.place =
-    position_or_len_is p all is.place s (omega arith) (λ k before. let after = is.first k s before in grind (arith, nat_tests)) (λ _. grind (arith, nat_tests)) in
+    position_or_len_is p all is.place s (omega arith) (λ k before. let after = is.first k s before in grind (arith, nat_tests))
+        (λ _. grind (arith, nat_tests)) in
     find_at p all ∙ ap (slice_get all) first ∙ is.there
 
 -- its round trip is the least of all
@@ -144,10 +147,12 @@ first_least-one xs from s e =
     ap first_least one ∙ grind (arith, nat_tests)
 
 -- the same of a range
-pub first_least-takes : (xs : List Stamp) (from i : ℕ) (b s : Stamp) → from ≤ i → slice_get xs i ≡ Some s → first_least (slice_range xs from i) ≡ Some b → trip s < trip b → first_least (slice_range xs from (i + 1)) ≡ Some s
+pub first_least-takes : (xs : List Stamp) (from i : ℕ) (b s : Stamp) → from ≤ i → slice_get xs i ≡ Some s
+    → first_least (slice_range xs from i) ≡ Some b → trip s < trip b → first_least (slice_range xs from (i + 1)) ≡ Some s
 first_least-takes xs from i b s before here e less = ap first_least (range-push xs from i s before here) ∙ takes (slice_range xs from i) b s e less
 
-pub first_least-keeps : (xs : List Stamp) (from i : ℕ) (b s : Stamp) → from ≤ i → slice_get xs i ≡ Some s → first_least (slice_range xs from i) ≡ Some b → trip b ≤ trip s → first_least (slice_range xs from (i + 1)) ≡ Some b
+pub first_least-keeps : (xs : List Stamp) (from i : ℕ) (b s : Stamp) → from ≤ i → slice_get xs i ≡ Some s
+    → first_least (slice_range xs from i) ≡ Some b → trip b ≤ trip s → first_least (slice_range xs from (i + 1)) ≡ Some b
 first_least-keeps xs from i b s before here e more = ap first_least (range-push xs from i s before here) ∙ keeps (slice_range xs from i) b s e more
 
 -- each stamp goes forward where all do

@@ -23,11 +23,13 @@ pub keep_last-push : (xs : List Stamp) (s : Stamp) → keep_last 1024 (keep_last
 keep_last-push xs s = grind (arith, common_steps)
 
 -- the stamps from a kept one on
-pub range-kept : (all : List Stamp) (from i : ℕ) → length all ≡ i + 1 → i - 1023 ≤ from → from ≤ i → drop (from - (i + 1 - length (keep_last 1024 all))) (keep_last 1024 all) ≡ slice_range all from (i + 1)
+pub range-kept : (all : List Stamp) (from i : ℕ) → length all ≡ i + 1 → i - 1023 ≤ from → from ≤ i
+    → drop (from - (i + 1 - length (keep_last 1024 all))) (keep_last 1024 all) ≡ slice_range all from (i + 1)
 range-kept all from i e kept order =
     let d : ℕ = length all - 1024 in
     let place : d + (from - (i + 1 - length (drop d all))) ≡ from = omega (arith, length-drop d all) in
-    drop-drop (from - (i + 1 - length (drop d all))) d all ∙ ap (λ n. drop n all) place ∙ sym (take_all (i + 1 - from) (drop from all) (omega (arith, length-drop from all)))
+    drop-drop (from - (i + 1 - length (drop d all))) d all ∙ ap (λ n. drop n all) place
+        ∙ sym (take_all (i + 1 - from) (drop from all) (omega (arith, length-drop from all)))
 
 pub last-push : (xs : List Stamp) (s : Stamp) → last_of (keep_last 1024 (xs ++ s ∷ [])) ≡ Some s
 last-push xs s =
@@ -40,7 +42,8 @@ last-push xs s =
     ∙ ap (λ s. Some s) (get_or_push (drop d xs) s s (length (drop d xs ++ s ∷ []) - 1) (omega (arith, length_push (drop d xs) s)))
 
 -- there are more counts than stamps
-pub count-below : (xs : List Stamp) (count freq : ℕ) (s : Stamp) → length xs ≡ min 1024 count → IfSome (last_of xs) (λ p. count ≤ p.tf) → accept_of (last_of xs) s freq ≡ Ok tt → count < s.tf
+pub count-below : (xs : List Stamp) (count freq : ℕ) (s : Stamp) → length xs ≡ min 1024 count → IfSome (last_of xs) (λ p. count ≤ p.tf)
+    → accept_of (last_of xs) s freq ≡ Ok tt → count < s.tf
 count-below xs count freq s few counted e =
     let sound = sound-by freq (last_of xs) s e in
     elim (slice_get_cases xs (length xs - 1)).1 as (λ _. count < s.tf) [
@@ -57,7 +60,8 @@ trips-push xs s =
     let all : List Stamp = xs ++ s ∷ [] in
     ap last_trips (sym (map_push trip xs s)) ∙ ap (λ n. drop (n - 1024) (map trip all)) (length-map all trip) ∙ drop-map trip (length all - 1024) all
 
-pub holds-push : (xs : List Stamp) (ls ls' : lists.Kept) (count start freq : ℕ) (s : Stamp) → Holds (buffer xs 1024) ls count start freq → IsInRange s → accept_of (last_of xs) s freq ≡ Ok tt
+pub holds-push : (xs : List Stamp) (ls ls' : lists.Kept) (count start freq : ℕ) (s : Stamp) → Holds (buffer xs 1024) ls count start freq
+    → IsInRange s → accept_of (last_of xs) s freq ≡ Ok tt
     → ls' ≡ listed (last_trips (ls.trips ++ trip s ∷ [])) (count + 1) start → Holds (buffer (keep_last 1024 (xs ++ s ∷ [])) 1024) ls' (count + 1) start freq
 holds-push xs ls ls' count start freq s holds timed e slid =
     let all : List Stamp = xs ++ s ∷ [] in
@@ -77,7 +81,8 @@ stamps-push : (k : Kept) (freq : ℕ) (all : List Stamp) (s : Stamp) → StandsF
 stamps-push k freq all s was = ap (λ (xs : List Stamp). keep_last 1024 (xs ++ s ∷ [])) was.stamps ∙ keep_last-push all s
 
 -- the kept stamps in a window are the stamps of all in it
-stamps_in-all : (k : Kept) (all : List Stamp) (which : Which) → k.stamps ≡ keep_last 1024 all → k.count ≡ length all → stamps_in k which ≡ slice_range all (span_in k which).from (span_in k which).to
+stamps_in-all : (k : Kept) (all : List Stamp) (which : Which) → k.stamps ≡ keep_last 1024 all → k.count ≡ length all
+    → stamps_in k which ≡ slice_range all (span_in k which).from (span_in k which).to
 stamps_in-all k all which kept counted =
     let d : ℕ = length all - 1024 in
     let w : Span = span_in k which in
@@ -89,7 +94,8 @@ stamps_in-all k all which kept counted =
     ∙ ap₂ (λ n xs. take n xs) long (drop-drop (w.from - d) d all ∙ ap (λ n. drop n all) place)
 
 -- what is said of one more stamp is what the definition says of it behind all
-pub base-push : (k : Kept) (freq : ℕ) (all : List Stamp) (s : Stamp) → StandsFor k freq all → judged_in (kept_with k s) ≡ base_at freq (all ++ s ∷ []) (length all)
+pub base-push : (k : Kept) (freq : ℕ) (all : List Stamp) (s : Stamp) → StandsFor k freq all
+    → judged_in (kept_with k s) ≡ base_at freq (all ++ s ∷ []) (length all)
 unfolding base_at least_trip
 base-push k freq all s was =
     let n : ℕ = length all in
@@ -98,10 +104,12 @@ base-push k freq all s was =
     let counted : k'.count ≡ length more = omega (arith, was.count, length_push all s) in
     let last : k'.count ≡ n + 1 = omega (arith, was.count) in
     let least_of_range : List Stamp → ℕ = λ xs. least_of (map trip xs) in
-    let in_all : (which : Which) → stamps_in k' which ≡ slice_range more (span_in k' which).from (span_in k' which).to = λ which. stamps_in-all k' more which (stamps-push k freq all s was) counted in
+    let in_all : (which : Which) → stamps_in k' which ≡ slice_range more (span_in k' which).from (span_in k' which).to = λ which. stamps_in-all
+        k' more which (stamps-push k freq all s was) counted in
     let since : max k.start (k'.count - 1024) ≡ max k.start (n - 1023) = omega arith in
     let late : k'.count - 32 ≡ n - 31 = omega arith in
-    let least : least_in k' which.Base ≡ least_trip more (max k.start (n - 1023)) n = ap least_of_range (in_all which.Base ∙ ap₂ (slice_range more) since last) in
+    let least : least_in k' which.Base ≡ least_trip more (max k.start (n - 1023)) n = ap least_of_range
+        (in_all which.Base ∙ ap₂ (slice_range more) since last) in
     let recent : least_in k' which.Recent ≡ least_trip more (n - 31) n = ap least_of_range (in_all which.Recent ∙ ap₂ (slice_range more) late last) in
     let started : k.start ≡ start_before freq more n = was.start ∙ sym (start_before-append freq all (s ∷ []) n (omega arith)) in
     let here : k'.count - 1 ≡ n = omega arith in
@@ -110,7 +118,8 @@ base-push k freq all s was =
     ∙ ap (λ start. base_from freq more start n) started
 
 -- a window with one more stamp stands for all with it
-pub stands-push : (k k' : Kept) (freq : ℕ) (all : List Stamp) (s : Stamp) (answer : Base) → StandsFor k freq all → answer ≡ judged_in (kept_with k s) → k' ≡ record (kept_with k s) { start = answer.start } → StandsFor k' freq (all ++ s ∷ [])
+pub stands-push : (k k' : Kept) (freq : ℕ) (all : List Stamp) (s : Stamp) (answer : Base) → StandsFor k freq all → answer ≡ judged_in (kept_with k s)
+    → k' ≡ record (kept_with k s) { start = answer.start } → StandsFor k' freq (all ++ s ∷ [])
 unfolding base_at start_before
 stands-push k k' freq all s answer was says after =
     let many : suc (length all) ≡ length (all ++ s ∷ []) = omega (arith, length_push all s) in
@@ -132,5 +141,6 @@ last-kept (s ∷ ss) =
     ∙ sym (slice_get-get_or all (length all - 1) s (omega arith))
 
 -- what is kept tests one more stamp as all do
-pub accept_of-kept : (k : Kept) (freq : ℕ) (all : List Stamp) (s : Stamp) → StandsFor k freq all → accept_of (last_of k.stamps) s k.freq ≡ accept_of (last_of all) s freq
+pub accept_of-kept : (k : Kept) (freq : ℕ) (all : List Stamp) (s : Stamp) → StandsFor k freq all
+    → accept_of (last_of k.stamps) s k.freq ≡ accept_of (last_of all) s freq
 accept_of-kept k freq all s was = ap₂ (λ (xs : List Stamp) freq. accept_of (last_of xs) s freq) was.stamps was.at ∙ ap (λ o. accept_of o s freq) (last-kept all)

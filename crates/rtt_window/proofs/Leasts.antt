@@ -9,7 +9,8 @@ least_of-push [] n some = absurd (omega arith)
 least_of-push (m ∷ ns) n some = fold-append min m ns (n ∷ [])
 
 -- one more element at the end of a range
-pub range_more : {X : Type 0} (xs : List X) (from i : ℕ) (d : X) → from ≤ i → i < length xs → slice_range xs from (i + 1) ≡ slice_range xs from i ++ get_or xs i d ∷ []
+pub range_more : {X : Type 0} (xs : List X) (from i : ℕ) (d : X) → from ≤ i → i < length xs → slice_range xs from (i + 1) ≡ slice_range xs from i
+    ++ get_or xs i d ∷ []
 range_more xs from i d before here =
     let many : i + 1 - from ≡ i - from + 1 = omega arith in
     let place : from + (i - from) ≡ i = omega arith in

@@ -31,12 +31,15 @@ unfolding pair_among
 pair_of-none reach xs few = grind (arith, nat_tests, length-drop (length xs - reach) xs)
 
 -- of two or more it is the first least of either quarter
-among-some : (near : List Stamp) (j k : Stamp) → 2 ≤ length near → first_least (take (quarter (length near)) near) ≡ Some j → first_least (keep_last (quarter (length near)) near) ≡ Some k → pair_among near ≡ Some (j, k)
+among-some : (near : List Stamp) (j k : Stamp) → 2 ≤ length near → first_least (take (quarter (length near)) near) ≡ Some j
+    → first_least (keep_last (quarter (length near)) near) ≡ Some k → pair_among near ≡ Some (j, k)
 unfolding pair_among
 among-some near j k many j_is k_is = grind (arith, nat_tests)
 
 -- the same, by the places of the quarters among all
-pub pair_of-some : (reach end near q : ℕ) (xs : List Stamp) (j k : Stamp) → end ≡ length xs → 2 ≤ end → 2 ≤ reach → near ≡ min end reach → q ≡ quarter near → first_least (slice_range xs (end - near) (end - near + q)) ≡ Some j → first_least (slice_range xs (end - q) end) ≡ Some k → pair_of reach xs ≡ Some (j, k)
+pub pair_of-some : (reach end near q : ℕ) (xs : List Stamp) (j k : Stamp) → end ≡ length xs → 2 ≤ end → 2 ≤ reach → near ≡ min end reach
+    → q ≡ quarter near → first_least (slice_range xs (end - near) (end - near + q)) ≡ Some j → first_least (slice_range xs (end - q) end) ≡ Some k
+    → pair_of reach xs ≡ Some (j, k)
 pair_of-some reach end near q xs j k is_end many two is_near is_q from to =
     let d : ℕ = length xs - reach in
     let n : ℕ = length (drop d xs) in
@@ -47,7 +50,8 @@ pair_of-some reach end near q xs j k is_end many two is_near is_q from to =
     among-some (drop d xs) j k (omega arith) (ap first_least left ∙ from) (ap first_least right ∙ to)
 
 -- the same, by the windows of the quarters
-pub pair_of-spans : (most : ℕ) (k : Kept) (old new : Which) (first last : Stamp) → 2 ≤ most → most ≤ 1024 → length k.stamps ≡ min 1024 k.count → 2 ≤ length k.stamps
+pub pair_of-spans : (most : ℕ) (k : Kept) (old new : Which) (first last : Stamp) → 2 ≤ most → most ≤ 1024 → length k.stamps ≡ min 1024 k.count
+    → 2 ≤ length k.stamps
     → span_of k.count k.start old ≡ first_quarter most k.count → span_of k.count k.start new ≡ last_quarter most k.count
     → first_least (stamps_in k old) ≡ Some first → first_least (stamps_in k new) ≡ Some last → pair_of most k.stamps ≡ Some (first, last)
 pair_of-spans most k old new first last two most_of few some is_old is_new is_first is_last =
@@ -56,10 +60,12 @@ pair_of-spans most k old new first last two most_of few some is_old is_new is_fi
     let d : ℕ = length xs - most in
     let n : ℕ = length (drop d xs) in
     let range : Span → List Stamp = λ w. slice_range xs (w.from - gone) (w.to - gone) in
-    let left : stamps_in k old ≡ take (quarter n) (drop d xs) = ap range is_old ∙ ap₂ (λ q i. take q (drop i xs)) (omega (arith, length-drop d xs)) (omega (arith, length-drop d xs)) in
+    let left : stamps_in k old ≡ take (quarter n) (drop d xs) = ap range is_old
+        ∙ ap₂ (λ q i. take q (drop i xs)) (omega (arith, length-drop d xs)) (omega (arith, length-drop d xs)) in
     let from : k.count - quarter (min most k.count) - gone ≡ d + (n - quarter n) = omega (arith, length-drop d xs) in
     let to : k.count - gone ≡ length xs = omega arith in
-    let right : stamps_in k new ≡ keep_last (quarter n) (drop d xs) = ap range is_new ∙ ap₂ (slice_range xs) from to ∙ take_rest xs (d + (n - quarter n)) ∙ sym (drop-drop (n - quarter n) d xs) in
+    let right : stamps_in k new ≡ keep_last (quarter n) (drop d xs) = ap range is_new ∙ ap₂ (slice_range xs) from to
+        ∙ take_rest xs (d + (n - quarter n)) ∙ sym (drop-drop (n - quarter n) d xs) in
     among-some (drop d xs) first last (omega (arith, length-drop d xs)) (ap first_least (sym left) ∙ is_first) (ap first_least (sym right) ∙ is_last)
 
 zip-some : (x y : Option Stamp) (j k : Stamp) → option_zip x y ≡ Some (j, k) → (x ≡ Some j) × (y ≡ Some k)
@@ -134,7 +140,8 @@ pair_of-places reach all j k e =
 pub pair_of-both : (P : Stamp → Type 0) (reach : ℕ) (all : List Stamp) (j k : Stamp) → All P all → pair_of reach all ≡ Some (j, k) → P j × P k
 pair_of-both P reach all j k are e =
     let at = pair_of-places reach all j k e in
-    let holds : (place : ℕ) (s : Stamp) → slice_get all place ≡ Some s → P s = λ place s there. subst P (get_or_from_slice_get all place s s there) (are place s (slice_get_within all place s there)) in
+    let holds : (place : ℕ) (s : Stamp) → slice_get all place ≡ Some s
+        → P s = λ place s there. subst P (get_or_from_slice_get all place s s there) (are place s (slice_get_within all place s there)) in
     (holds at.first j at.at_first, holds at.second k at.at_second)
 
 -- a pair of accepted stamps is two accepted stamps
@@ -150,5 +157,6 @@ pair_of-accepted freq reach all j k are e =
       timed_k = timed.1;
       sound_j = sound.0;
       sound_k = sound.1;
-      follow = subst (λ k. Follows j k) is_k (subst (λ j'. Follows j' (get_or all at.second j)) is_j (are.follow at.first at.second j at.order (slice_get_within all at.second k at.at_second)));
+      follow = subst (λ k. Follows j k) is_k (subst (λ j'. Follows j' (get_or all at.second j)) is_j
+          (are.follow at.first at.second j at.order (slice_get_within all at.second k at.at_second)));
     }

@@ -18,7 +18,8 @@ judged-start : (freq start i least recent : ℕ) → start ≤ i → (judged fre
 unfolding judged
 judged-start freq start i least recent h = by_test (nat_le 32 (i - start) && nat_lt (least + 4 * trip_scale freq) recent)
   where
-    by_test : (b : Bool) → (cond {A = Base} b (record { base = recent; start = i - 31; shifted = true }) (record { base = least; start = start; shifted = false })).start ≤ i
+    by_test : (b : Bool) → (cond {A = Base} b (record { base = recent; start = i - 31; shifted = true })
+        (record { base = least; start = start; shifted = false })).start ≤ i
     by_test true = omega arith
     by_test false = h
 
@@ -26,7 +27,8 @@ pub start_before-le : (freq : ℕ) (all : List Stamp) (i : ℕ) → start_before
 unfolding start_before
 start_before-le freq all zero = omega arith
 start_before-le freq all (suc i) =
-    let started = judged-start freq (start_before freq all i) i (least_trip all (max (start_before freq all i) (i - 1023)) i) (least_trip all (i - 31) i) (start_before-le freq all i) in
+    let started = judged-start freq (start_before freq all i) i (least_trip all (max (start_before freq all i) (i - 1023)) i)
+        (least_trip all (i - 31) i) (start_before-le freq all i) in
     omega arith
 
 base_from-append : (freq : ℕ) (xs ys : List Stamp) (start i : ℕ) → start ≤ i → i < length xs → base_from freq (xs ++ ys) start i ≡ base_from freq xs start i
@@ -48,4 +50,5 @@ base_at-append freq xs ys i here =
 
 pub base_at-start : (freq : ℕ) (all : List Stamp) (i : ℕ) → (base_at freq all i).start ≤ i
 unfolding base_at
-base_at-start freq all i = judged-start freq (start_before freq all i) i (least_trip all (max (start_before freq all i) (i - 1023)) i) (least_trip all (i - 31) i) (start_before-le freq all i)
+base_at-start freq all i = judged-start freq (start_before freq all i) i (least_trip all (max (start_before freq all i) (i - 1023)) i)
+    (least_trip all (i - 31) i) (start_before-le freq all i)

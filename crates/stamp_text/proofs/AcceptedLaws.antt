@@ -44,7 +44,8 @@ follows-on freq a b c first sound second = record {
   times = omega (arith, ints, first.times, sound.times, second.times);
 }
 
-follows-all : (freq : ℕ) (xs : List Stamp) (s : Stamp) → AreAccepted freq xs → accept_of (last_of xs) s freq ≡ Ok tt → (k : ℕ) (d : Stamp) → k < length xs → Follows (get_or xs k d) s
+follows-all : (freq : ℕ) (xs : List Stamp) (s : Stamp) → AreAccepted freq xs → accept_of (last_of xs) s freq ≡ Ok tt
+    → (k : ℕ) (d : Stamp) → k < length xs → Follows (get_or xs k d) s
 follows-all freq xs s are e k d here =
     let n : ℕ = length xs - 1 in
     let p : Stamp = get_or xs n d in
@@ -55,7 +56,8 @@ follows-all freq xs s are e k d here =
     ]
 
 -- one more stamp that is accepted
-pub accepted-push : (freq : ℕ) (xs : List Stamp) (s : Stamp) → AreAccepted freq xs → IsInRange s → accept_of (last_of xs) s freq ≡ Ok tt → AreAccepted freq (xs ++ s ∷ [])
+pub accepted-push : (freq : ℕ) (xs : List Stamp) (s : Stamp) → AreAccepted freq xs → IsInRange s → accept_of (last_of xs) s freq ≡ Ok tt
+    → AreAccepted freq (xs ++ s ∷ [])
 accepted-push freq xs s are timed e = record {
   timed = All-push IsInRange xs s are.timed timed;
   sound = All-push (IsPlausible freq) xs s are.sound (sound-by freq (last_of xs) s e);
@@ -87,7 +89,8 @@ accepted-all freq before (s ∷ ss) are timed =
     split (accept_of (last_of before) s freq) refl
 
 -- the accepted stamps with one more line
-pub accepted-line : (freq : ℕ) (lines : List Line) (line : Line) → accepted_of_lines freq (lines ++ line ∷ []) ≡ accepted_all freq (accepted_of_lines freq lines) (stamps_among (line ∷ []))
+pub accepted-line : (freq : ℕ) (lines : List Line) (line : Line) → accepted_of_lines freq (lines ++ line ∷ []) ≡ accepted_all freq
+    (accepted_of_lines freq lines) (stamps_among (line ∷ []))
 accepted-line freq lines line =
     ap (accepted_all freq []) (filter_map-append stamp_of_line lines (line ∷ []))
     ∙ fold-append (λ all s. accepted_with all s (accept_of (last_of all) s freq)) [] (stamps_among lines) (stamps_among (line ∷ []))

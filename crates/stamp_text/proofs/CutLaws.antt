@@ -16,9 +16,14 @@ record Parted (text : List ℕ) (x : ℕ) : Type 0 where
   more : parts_of (text ++ x ∷ []) ≡ ended ++ (last ++ x ∷ []) ∷ []
 
 -- a byte in front of parts goes to the first of them
-parted-onto : (b : ℕ) (text : List ℕ) (x : ℕ) → Parted text x → (ended : List (List ℕ)) × (last : List ℕ) × (onto_first b (parts_of text) ≡ ended ++ last ∷ []) × (onto_first b (parts_of (text ++ 10 ∷ [])) ≡ (ended ++ last ∷ []) ++ [] ∷ []) × (onto_first b (parts_of (text ++ x ∷ [])) ≡ ended ++ (last ++ x ∷ []) ∷ [])
+parted-onto : (b : ℕ) (text : List ℕ) (x : ℕ) → Parted text x → (ended : List (List ℕ)) × (last : List ℕ)
+    × (onto_first b (parts_of text) ≡ ended ++ last ∷ []) × (onto_first b (parts_of (text ++ 10 ∷ [])) ≡ (ended ++ last ∷ []) ++ [] ∷ [])
+    × (onto_first b (parts_of (text ++ x ∷ [])) ≡ ended ++ (last ++ x ∷ []) ∷ [])
 parted-onto b text x p =
-    let split : (es : List (List ℕ)) → parts_of text ≡ es ++ p.last ∷ [] → parts_of (text ++ 10 ∷ []) ≡ (es ++ p.last ∷ []) ++ [] ∷ [] → parts_of (text ++ x ∷ []) ≡ es ++ (p.last ++ x ∷ []) ∷ [] → (ended : List (List ℕ)) × (last : List ℕ) × (onto_first b (parts_of text) ≡ ended ++ last ∷ []) × (onto_first b (parts_of (text ++ 10 ∷ [])) ≡ (ended ++ last ∷ []) ++ [] ∷ []) × (onto_first b (parts_of (text ++ x ∷ [])) ≡ ended ++ (last ++ x ∷ []) ∷ []) =
+    let split : (es : List (List ℕ)) → parts_of text ≡ es ++ p.last ∷ [] → parts_of (text ++ 10 ∷ []) ≡ (es ++ p.last ∷ []) ++ [] ∷ []
+        → parts_of (text ++ x ∷ []) ≡ es ++ (p.last ++ x ∷ []) ∷ [] → (ended : List (List ℕ)) × (last : List ℕ)
+        × (onto_first b (parts_of text) ≡ ended ++ last ∷ []) × (onto_first b (parts_of (text ++ 10 ∷ [])) ≡ (ended ++ last ∷ []) ++ [] ∷ [])
+        × (onto_first b (parts_of (text ++ x ∷ [])) ≡ ended ++ (last ++ x ∷ []) ∷ []) =
     elim [
       | [] ↦ λ e f g. ([], b ∷ p.last, ap (onto_first b) e, ap (onto_first b) f, ap (onto_first b) g)
       | l ∷ ls ↦ λ e f g. ((b ∷ l) ∷ ls, p.last, ap (onto_first b) e, ap (onto_first b) f, ap (onto_first b) g)
@@ -72,7 +77,8 @@ open_by text ls l e = ap (λ (ps : List (List ℕ)). get_or ps (length ps - 1) [
 pub parts_are : (text : List ℕ) → parts_of text ≡ ended_lines text ++ open_line text ∷ []
 parts_are text =
     let p = parted text 0 refl in
-    p.parts ∙ ap (λ (ls : List (List ℕ)). ls ++ p.last ∷ []) (sym (ended_by text p.ended p.last p.parts)) ∙ ap (λ (l : List ℕ). ended_lines text ++ l ∷ []) (sym (open_by text p.ended p.last p.parts))
+    p.parts ∙ ap (λ (ls : List (List ℕ)). ls ++ p.last ∷ []) (sym (ended_by text p.ended p.last p.parts))
+        ∙ ap (λ (l : List ℕ). ended_lines text ++ l ∷ []) (sym (open_by text p.ended p.last p.parts))
 
 -- a line feed ends the open line
 pub ended_lines-feed : (text : List ℕ) → ended_lines (text ++ 10 ∷ []) ≡ ended_lines text ++ open_line text ∷ []
@@ -84,12 +90,15 @@ open_line-feed text = let p = parted text 0 refl in open_by (text ++ 10 ∷ []) 
 
 -- another byte ends no line
 pub ended_lines-more : (text : List ℕ) (x : ℕ) → eqb x 10 ≡ false → ended_lines (text ++ x ∷ []) ≡ ended_lines text
-ended_lines-more text x other = let p = parted text x other in ended_by (text ++ x ∷ []) p.ended (p.last ++ x ∷ []) p.more ∙ sym (ended_by text p.ended p.last p.parts)
+ended_lines-more text x other = let p = parted text x other in ended_by (text ++ x ∷ []) p.ended (p.last ++ x ∷ []) p.more
+    ∙ sym (ended_by text p.ended p.last p.parts)
 
 -- another byte goes to the open line
 pub open_line-more : (text : List ℕ) (x : ℕ) → eqb x 10 ≡ false → open_line (text ++ x ∷ []) ≡ open_line text ++ x ∷ []
-open_line-more text x other = let p = parted text x other in open_by (text ++ x ∷ []) p.ended (p.last ++ x ∷ []) p.more ∙ ap (λ (l : List ℕ). l ++ x ∷ []) (sym (open_by text p.ended p.last p.parts))
+open_line-more text x other = let p = parted text x other in open_by (text ++ x ∷ []) p.ended (p.last ++ x ∷ []) p.more
+    ∙ ap (λ (l : List ℕ). l ++ x ∷ []) (sym (open_by text p.ended p.last p.parts))
 
 -- there are no more lines than bytes
 pub ended_lines-short : (text : List ℕ) → length (ended_lines text) ≤ length text
-ended_lines-short text = omega (arith, length-take (length (parts_of text) - 1) (parts_of text), length-slice_split (λ b. eqb b 10) text, count_by-le-length (λ b. eqb b 10) text)
+ended_lines-short text = omega (arith, length-take (length (parts_of text) - 1) (parts_of text), length-slice_split (λ b. eqb b 10) text,
+    count_by-le-length (λ b. eqb b 10) text)

@@ -46,7 +46,8 @@ nanos_of_lt ds few digits =
     subst (λ n. nanos_of ds < 1 * 10 ^ n) nine (value_from_lt 0 1 (ds ++ zeros) (omega arith) (filled_digits ds (9 - length ds) digits))
 
 -- a capped value of one to nine digits is their nanoseconds
-pub nanos_told : (ds : List ℕ) (v : ℕ) → 1 ≤ length ds → length ds ≤ 9 → all_digits ds ≡ true → v ≡ min (nanos_of ds) (2 ^ 64 - 1) → (v < 1000000000) × (Some v ≡ nanos_in ds)
+pub nanos_told : (ds : List ℕ) (v : ℕ) → 1 ≤ length ds → length ds ≤ 9 → all_digits ds ≡ true → v ≡ min (nanos_of ds) (2 ^ 64 - 1) → (v < 1000000000)
+    × (Some v ≡ nanos_in ds)
 nanos_told ds v some few digits e =
     let below = nanos_of_lt ds few digits in
     let same : v ≡ nanos_of ds = omega (arith, below) in
@@ -70,16 +71,19 @@ value_from-append n [] es = refl
 value_from-append n (d ∷ ds) es = value_from-append (n * 10 + (d - 48)) ds es
 
 -- the value of few digits, which needs no cap
-pub few_digits : (ds : List ℕ) (v : ℕ) → length ds ≤ 9 → all_digits ds ≡ true → v ≡ min (value_from 0 ds) (2 ^ 64 - 1) → (v ≡ value_from 0 ds) × (v < 10 ^ length ds)
+pub few_digits : (ds : List ℕ) (v : ℕ) → length ds ≤ 9 → all_digits ds ≡ true → v ≡ min (value_from 0 ds) (2 ^ 64 - 1) → (v ≡ value_from 0 ds)
+    × (v < 10 ^ length ds)
 few_digits ds v few digits e =
     let below = value_from_lt 0 1 ds (omega arith) digits in
     let room = pow-le-pow_right {n = 10} (omega arith) {i = length ds} {j = 9} few in
     (omega (arith, below, room), omega (arith, below, room))
 
 -- the value of one to nine digits, filled up with zeros, is their nanoseconds
-pub nanos_filled : (ds : List ℕ) (v w : ℕ) → 1 ≤ length ds → length ds ≤ 9 → all_digits ds ≡ true → v ≡ value_from 0 ds → w ≡ value_from v (replicate (9 - length ds) 48) → Some w ≡ nanos_in ds
+pub nanos_filled : (ds : List ℕ) (v w : ℕ) → 1 ≤ length ds → length ds ≤ 9 → all_digits ds ≡ true → v ≡ value_from 0 ds
+    → w ≡ value_from v (replicate (9 - length ds) 48) → Some w ≡ nanos_in ds
 nanos_filled ds v w some few digits value filled =
-    let same : w ≡ nanos_of ds = filled ∙ ap (λ n. value_from n (replicate (9 - length ds) 48)) value ∙ sym (value_from-append 0 ds (replicate (9 - length ds) 48)) in
+    let same : w ≡ nanos_of ds = filled ∙ ap (λ n. value_from n (replicate (9 - length ds) 48)) value
+        ∙ sym (value_from-append 0 ds (replicate (9 - length ds) 48)) in
     let fraction : is_fraction ds ≡ true = grind (arith, nat_tests) in
     ap (λ n. Some n) same ∙ ap (λ t. cond t (Some (nanos_of ds)) None) (sym fraction)
 
@@ -89,7 +93,8 @@ ahead_digits [] = refl
 ahead_digits (x ∷ xs) =
     let split : (t : Bool) → is_digit x ≡ t → all_digits (take (cond t (1 + digits_len xs) 0) (x ∷ xs)) ≡ true =
     elim [
-      | true ↦ λ e. subst (λ n. all_digits (take n (x ∷ xs)) ≡ true) {x = suc (digits_len xs)} (omega arith) (ap (λ t. t && all_digits (take (digits_len xs) xs)) e ∙ ahead_digits xs)
+      | true ↦ λ e. subst (λ n. all_digits (take n (x ∷ xs)) ≡ true) {x = suc (digits_len xs)} (omega arith)
+          (ap (λ t. t && all_digits (take (digits_len xs) xs)) e ∙ ahead_digits xs)
       | false ↦ λ e. refl
     ] in
     split (is_digit x) refl
@@ -120,7 +125,8 @@ pub record DigitsSoFar (text : List ℕ) (v n : ℕ) : Type 0 where
   pub value : v ≡ value_from 0 (take n text) % 2 ^ 64
 
 -- one more digit that a text begins with
-pub one_more_digit : (text : List ℕ) (v n w : ℕ) → DigitsSoFar text v n → n < length text → is_digit (get_or text n 0) ≡ true → w ≡ (v * 10 % 2 ^ 64 + (get_or text n 0 - 48)) % 2 ^ 64 → DigitsSoFar text w (n + 1)
+pub one_more_digit : (text : List ℕ) (v n w : ℕ) → DigitsSoFar text v n → n < length text → is_digit (get_or text n 0) ≡ true
+    → w ≡ (v * 10 % 2 ^ 64 + (get_or text n 0 - 48)) % 2 ^ 64 → DigitsSoFar text w (n + 1)
 one_more_digit text v n w was room digit value =
     let d = get_or text n 0 in
     let more : take (n + 1) text ≡ take n text ++ d ∷ [] = take_more text n 0 room in

@@ -26,7 +26,13 @@ le_word (a ∷ b ∷ c ∷ d ∷ e ∷ f ∷ g ∷ h ∷ []) n = omega arith
 le_word (a ∷ b ∷ c ∷ d ∷ e ∷ f ∷ g ∷ h ∷ i ∷ more) n = absurd (omega arith)
 
 -- bytes less that of `0`, where none of them is ten or more, are digits, and their products are the value
-pub eight_read : (xs : List ℕ) (word v : ℕ) → length xs ≡ 8 → ((k : ℕ) → get_or xs k 0 < 256) → word < 2 ^ 64 → word ≡ from_le_bytes w64 xs → bit_and (bit_or (bit_and (bit_xor word 0x3030_3030_3030_3030) 0x7f7f_7f7f_7f7f_7f7f + 0x7676_7676_7676_7676) (bit_xor word 0x3030_3030_3030_3030)) 0x8080_8080_8080_8080 ≡ 0 → v ≡ (bit_and ((bit_xor word 0x3030_3030_3030_3030 * 10 % 2 ^ 64 + bit_xor word 0x3030_3030_3030_3030 / 256) % 2 ^ 64) 0x0000_00ff_0000_00ff * 4294967296000100 % 2 ^ 64 + bit_and ((bit_xor word 0x3030_3030_3030_3030 * 10 % 2 ^ 64 + bit_xor word 0x3030_3030_3030_3030 / 256) % 2 ^ 64 / 65536) 0x0000_00ff_0000_00ff * 42949672960001 % 2 ^ 64) % 2 ^ 64 / 2 ^ 32 → BeginsWithDigits xs v 8
+pub eight_read : (xs : List ℕ) (word v : ℕ) → length xs ≡ 8 → ((k : ℕ) → get_or xs k 0 < 256) → word < 2 ^ 64 → word ≡ from_le_bytes w64 xs
+    → bit_and (bit_or (bit_and (bit_xor word 0x3030_3030_3030_3030) 0x7f7f_7f7f_7f7f_7f7f + 0x7676_7676_7676_7676)
+    (bit_xor word 0x3030_3030_3030_3030)) 0x8080_8080_8080_8080 ≡ 0
+    → v ≡ (bit_and ((bit_xor word 0x3030_3030_3030_3030 * 10 % 2 ^ 64 + bit_xor word 0x3030_3030_3030_3030 / 256) % 2 ^ 64)
+    0x0000_00ff_0000_00ff * 4294967296000100 % 2 ^ 64 + bit_and
+    ((bit_xor word 0x3030_3030_3030_3030 * 10 % 2 ^ 64 + bit_xor word 0x3030_3030_3030_3030 / 256) % 2 ^ 64 / 65536)
+    0x0000_00ff_0000_00ff * 42949672960001 % 2 ^ 64) % 2 ^ 64 / 2 ^ 32 → BeginsWithDigits xs v 8
 eight_read xs word v long bytes fits is none value =
     let eight : IsEightBytes xs = (long, bytes_of xs bytes) in
     let read = is ∙ le_word xs long in

@@ -15,27 +15,37 @@ first_none None b h = (refl, h)
 first_none (Some f) b h = absurd (cc)
 
 -- the first fault with one more line, which has the number m
-pub fault_from-push : (second : Bool) (n : ℕ) (lines : List (List ℕ)) (line : List ℕ) (m : ℕ) → m ≡ n + length lines → fault_from second n (lines ++ line ∷ []) ≡ first_fault (fault_from second n lines) (fault_on m (line_says second m line) None)
+pub fault_from-push : (second : Bool) (n : ℕ) (lines : List (List ℕ)) (line : List ℕ) (m : ℕ) → m ≡ n + length lines
+    → fault_from second n (lines ++ line ∷ []) ≡ first_fault (fault_from second n lines) (fault_on m (line_says second m line) None)
 fault_from-push second n [] line m e = let same : n ≡ m = omega arith in ap (λ k. fault_on k (line_says second k line) None) same
 fault_from-push second n (l ∷ ls) line m e =
-    let later : fault_from second (n + 1) (ls ++ line ∷ []) ≡ first_fault (fault_from second (n + 1) ls) (fault_on m (line_says second m line) None) = fault_from-push second (n + 1) ls line m (omega arith) in
-    elim (line_says second n l) as (λ r. fault_on n r (fault_from second (n + 1) (ls ++ line ∷ [])) ≡ first_fault (fault_on n r (fault_from second (n + 1) ls)) (fault_on m (line_says second m line) None))
+    let later : fault_from second (n + 1) (ls ++ line ∷ []) ≡ first_fault (fault_from second (n + 1) ls)
+        (fault_on m (line_says second m line) None) = fault_from-push second (n + 1) ls line m (omega arith) in
+    elim (line_says second n l) as (λ r. fault_on n r (fault_from second (n + 1) (ls ++ line ∷ [])) ≡ first_fault
+        (fault_on n r (fault_from second (n + 1) ls)) (fault_on m (line_says second m line) None))
     [ Ok o ↦ later | Err w ↦ refl ]
 
 -- what the lines give with one more line, where those before it have no fault
-pub given_from-push : (second : Bool) (n : ℕ) (lines : List (List ℕ)) (line : List ℕ) (m : ℕ) → m ≡ n + length lines → fault_from second n lines ≡ None → given_from second n (lines ++ line ∷ []) ≡ given_from second n lines ++ given_on (line_says second m line) []
+pub given_from-push : (second : Bool) (n : ℕ) (lines : List (List ℕ)) (line : List ℕ) (m : ℕ) → m ≡ n + length lines
+    → fault_from second n lines ≡ None → given_from second n (lines ++ line ∷ []) ≡ given_from second n lines ++ given_on (line_says second m line) []
 given_from-push second n [] line m e h = let same : n ≡ m = omega arith in ap (λ k. given_on (line_says second k line) []) same
 given_from-push second n (l ∷ ls) line m e h =
-    let step : (r : Result (Option Line) Why) → fault_on n r (fault_from second (n + 1) ls) ≡ None → given_on r (given_from second (n + 1) (ls ++ line ∷ [])) ≡ given_on r (given_from second (n + 1) ls) ++ given_on (line_says second m line) [] =
-    elim [ Ok o ↦ elim o as (λ o. fault_on n (Ok o) (fault_from second (n + 1) ls) ≡ None → given_on (Ok o) (given_from second (n + 1) (ls ++ line ∷ [])) ≡ given_on (Ok o) (given_from second (n + 1) ls) ++ given_on (line_says second m line) []) [ None ↦ λ g. given_from-push second (n + 1) ls line m (omega arith) g | Some x ↦ λ g. ap (λ (xs : List Line). x ∷ xs) (given_from-push second (n + 1) ls line m (omega arith) g) ] | Err w ↦ λ g. absurd (cc) ] in
+    let step : (r : Result (Option Line) Why) → fault_on n r (fault_from second (n + 1) ls) ≡ None
+        → given_on r (given_from second (n + 1) (ls ++ line ∷ [])) ≡ given_on r (given_from second (n + 1) ls) ++ given_on (line_says second m line) [] =
+    elim [ Ok o ↦ elim o as (λ o. fault_on n (Ok o) (fault_from second (n + 1) ls) ≡ None
+        → given_on (Ok o) (given_from second (n + 1) (ls ++ line ∷ [])) ≡ given_on (Ok o) (given_from second (n + 1) ls)
+        ++ given_on (line_says second m line) []) [ None ↦ λ g. given_from-push second (n + 1) ls line m (omega arith) g | Some x ↦ λ g. ap
+        (λ (xs : List Line). x ∷ xs) (given_from-push second (n + 1) ls line m (omega arith) g) ] | Err w ↦ λ g. absurd (cc) ] in
     step (line_says second n l) h
 
 -- the same of the lines of a file, where the first of them says its version
-pub faults-push : (lines : List (List ℕ)) (line : List ℕ) (m : ℕ) → m ≡ 1 + length lines → faults (lines ++ line ∷ []) ≡ first_fault (faults lines) (fault_on m (line_says (second_of lines) m line) None)
+pub faults-push : (lines : List (List ℕ)) (line : List ℕ) (m : ℕ) → m ≡ 1 + length lines
+    → faults (lines ++ line ∷ []) ≡ first_fault (faults lines) (fault_on m (line_says (second_of lines) m line) None)
 faults-push [] line m e = fault_from-push false 1 [] line m e
 faults-push (l ∷ ls) line m e = fault_from-push (second_of (l ∷ ls)) 1 (l ∷ ls) line m e
 
-pub gives_all-push : (lines : List (List ℕ)) (line : List ℕ) (m : ℕ) → m ≡ 1 + length lines → faults lines ≡ None → gives_all (lines ++ line ∷ []) ≡ gives_all lines ++ given_on (line_says (second_of lines) m line) []
+pub gives_all-push : (lines : List (List ℕ)) (line : List ℕ) (m : ℕ) → m ≡ 1 + length lines → faults lines ≡ None
+    → gives_all (lines ++ line ∷ []) ≡ gives_all lines ++ given_on (line_says (second_of lines) m line) []
 gives_all-push [] line m e h = given_from-push false 1 [] line m e h
 gives_all-push (l ∷ ls) line m e h = given_from-push (second_of (l ∷ ls)) 1 (l ∷ ls) line m e h
 

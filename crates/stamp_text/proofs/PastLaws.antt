@@ -37,7 +37,8 @@ pub stamp-refused : (freq : ℕ) (seen : Seen) (s : Stamp) (why : Refused) → a
 unfolding accept_of test_of
 stamp-refused freq seen s why e = tests-refuse (tests_of seen.stamp s freq) (later_tests seen.set s) why e
 
-pub stamp-passed : (freq : ℕ) (seen : Seen) (s : Stamp) → accept_of seen.stamp s freq ≡ Ok tt → test_of freq seen (item.Stamp s) ≡ first_that_holds (later_tests seen.set s)
+pub stamp-passed : (freq : ℕ) (seen : Seen) (s : Stamp) → accept_of seen.stamp s freq ≡ Ok tt
+    → test_of freq seen (item.Stamp s) ≡ first_that_holds (later_tests seen.set s)
 unfolding accept_of test_of
 stamp-passed freq seen s e = tests-pass (tests_of seen.stamp s freq) (later_tests seen.set s) e
 
@@ -56,9 +57,11 @@ last-push xs s =
     ∙ ap (λ s. Some s) (get_or_push xs s s (length (xs ++ s ∷ []) - 1) (omega (arith, length_push xs s)))
 
 -- the latest stamp is the last one
-stamp-from : (seen : Seen) (before : List Stamp) (items : List Item) → seen.stamp ≡ last_of before → (fold seen_with seen items).stamp ≡ last_of (before ++ stamps_of items)
+stamp-from : (seen : Seen) (before : List Stamp) (items : List Item) → seen.stamp ≡ last_of before
+    → (fold seen_with seen items).stamp ≡ last_of (before ++ stamps_of items)
 stamp-from seen before [] e = e ∙ ap last_of (sym (append-nil before))
-stamp-from seen before (item.Stamp s ∷ xs) e = stamp-from (seen_with seen (item.Stamp s)) (before ++ s ∷ []) xs (sym (last-push before s)) ∙ ap last_of (append_assoc before (s ∷ []) (stamps_of xs))
+stamp-from seen before (item.Stamp s ∷ xs) e = stamp-from (seen_with seen (item.Stamp s)) (before ++ s ∷ []) xs (sym (last-push before s))
+    ∙ ap last_of (append_assoc before (s ∷ []) (stamps_of xs))
 stamp-from seen before (item.Set count at ∷ xs) e = stamp-from (seen_with seen (item.Set count at)) before xs e
 stamp-from seen before (item.Leap count leap ∷ xs) e = stamp-from (seen_with seen (item.Leap count leap)) before xs e
 
@@ -116,11 +119,13 @@ above-stamp freq seen s c e h =
     split _ _ refl refl h
 
 -- so does a set
-pub above-set : (freq : ℕ) (seen : Seen) (count : ℕ) (at : Bintime) (c : ℕ) → test_of freq seen (item.Set count at) ≡ Ok tt → is_reached seen c ≡ true → c < count
+pub above-set : (freq : ℕ) (seen : Seen) (count : ℕ) (at : Bintime) (c : ℕ) → test_of freq seen (item.Set count at) ≡ Ok tt
+    → is_reached seen c ≡ true → c < count
 unfolding test_of
 above-set freq seen count at c e h =
     let not_reached : is_reached seen count ≡ false = (none-holds ((is_reached seen count, refused.SetOld) ∷ []) e).0 in
-    let split : (stamp : Option ℕ) (set : Option ℕ) → (is_not_behind count stamp || is_not_behind count set) ≡ false → (is_not_behind c stamp || is_not_behind c set) ≡ true → c < count =
+    let split : (stamp : Option ℕ) (set : Option ℕ) → (is_not_behind count stamp || is_not_behind count set) ≡ false
+        → (is_not_behind c stamp || is_not_behind c set) ≡ true → c < count =
     elim [
       | None ↦ λ set out within. behind-set set count c out within
       | Some n ↦ elim [ None ↦ λ out within. grind (arith, nat_tests) | Some m ↦ λ out within. grind (arith, nat_tests) ]
@@ -137,17 +142,25 @@ record Counted (items : List Item) (x : Item) : Type 0 where
   rising : AllPairs (λ a b. a < b) (counts_of (items ++ x ∷ []))
   reached : All (λ c. is_reached (seen_of (items ++ x ∷ [])) c ≡ true) (counts_of (items ++ x ∷ []))
 
-one-counted : (freq : ℕ) (items : List Item) (x : Item) (n : ℕ) → AreAcceptedItems freq items → count_of_item x ≡ Some n → ((c : ℕ) → is_reached (seen_of items) c ≡ true → c < n) → ((c : ℕ) → c ≤ n → is_reached (seen_with (seen_of items) x) c ≡ true) → Counted items x
+one-counted : (freq : ℕ) (items : List Item) (x : Item) (n : ℕ) → AreAcceptedItems freq items → count_of_item x ≡ Some n
+    → ((c : ℕ) → is_reached (seen_of items) c ≡ true → c < n) → ((c : ℕ) → c ≤ n → is_reached (seen_with (seen_of items) x) c ≡ true) → Counted items x
 one-counted freq items x n are is above reach =
-    let counts : counts_of (items ++ x ∷ []) ≡ counts_of items ++ n ∷ [] = counts-push items x ∙ ap (λ (o : Option ℕ). counts_of items ++ option_to_list o) is in
+    let counts : counts_of (items ++ x ∷ []) ≡ counts_of items ++ n ∷ [] = counts-push items x
+        ∙ ap (λ (o : Option ℕ). counts_of items ++ option_to_list o) is in
     let seen = seen-push items x in
     record {
-      rising = subst (AllPairs (λ a b. a < b)) (sym counts) (all_pairs_push (λ a b. a < b) (counts_of items) n are.rising (λ k d within. above (get_or (counts_of items) k d) (are.reached k d within)));
-      reached = subst (λ (cs : List ℕ). All (λ c. is_reached (seen_of (items ++ x ∷ [])) c ≡ true) cs) (sym counts) (subst (λ (k : Seen). All (λ c. is_reached k c ≡ true) (counts_of items ++ n ∷ [])) (sym seen) (All-push (λ c. is_reached (seen_with (seen_of items) x) c ≡ true) (counts_of items) n (λ k d within. (let below = above (get_or (counts_of items) k d) (are.reached k d within) in reach (get_or (counts_of items) k d) (omega arith))) (reach n (omega arith))));
+      rising = subst (AllPairs (λ a b. a < b)) (sym counts) (all_pairs_push (λ a b. a < b) (counts_of items) n are.rising
+          (λ k d within. above (get_or (counts_of items) k d) (are.reached k d within)));
+      reached = subst (λ (cs : List ℕ). All (λ c. is_reached (seen_of (items ++ x ∷ [])) c ≡ true) cs) (sym counts)
+          (subst (λ (k : Seen). All (λ c. is_reached k c ≡ true) (counts_of items ++ n ∷ [])) (sym seen)
+          (All-push (λ c. is_reached (seen_with (seen_of items) x) c ≡ true) (counts_of items) n
+          (λ k d within. (let below = above (get_or (counts_of items) k d) (are.reached k d within) in
+          reach (get_or (counts_of items) k d) (omega arith))) (reach n (omega arith))));
     }
 
 -- one more item that is accepted
-pub item-push : (freq : ℕ) (items : List Item) (x : Item) → AreAcceptedItems freq items → IsItemInRange x → accept_item freq items x ≡ Ok tt → AreAcceptedItems freq (items ++ x ∷ [])
+pub item-push : (freq : ℕ) (items : List Item) (x : Item) → AreAcceptedItems freq items → IsItemInRange x → accept_item freq items x ≡ Ok tt
+    → AreAcceptedItems freq (items ++ x ∷ [])
 item-push freq items (item.Stamp s) are timed e =
     let x : Item = item.Stamp s in
     let seen = seen_of items in
@@ -181,16 +194,19 @@ item-push freq items (item.Leap count leap) are timed e =
       timed = All-push IsItemInRange items x are.timed timed;
       stamps = subst (AreAccepted freq) (sym (stamps-push items x ∙ append-nil (stamps_of items))) are.stamps;
       rising = subst (AllPairs (λ a b. a < b)) (sym same) are.rising;
-      reached = subst (λ (cs : List ℕ). All (λ c. is_reached (seen_of (items ++ x ∷ [])) c ≡ true) cs) (sym same) (subst (λ (k : Seen). All (λ c. is_reached k c ≡ true) (counts_of items)) (sym (seen-push items x)) are.reached);
+      reached = subst (λ (cs : List ℕ). All (λ c. is_reached (seen_of (items ++ x ∷ [])) c ≡ true) cs) (sym same)
+          (subst (λ (k : Seen). All (λ c. is_reached k c ≡ true) (counts_of items)) (sym (seen-push items x)) are.reached);
       few = subst (λ (k : Seen). k.leaps ≤ 100) (sym (seen-push items x)) (let few = few-leap freq (seen_of items) count leap e in (omega arith));
     }
 
 -- no items
 pub items-none : (freq : ℕ) → AreAcceptedItems freq []
-items-none freq = record { timed = All-nil IsItemInRange; stamps = accepted-none freq; rising = λ i j d before here. absurd (omega arith); reached = λ k d here. absurd (omega arith); few = omega arith }
+items-none freq = record { timed = All-nil IsItemInRange; stamps = accepted-none freq; rising = λ i j d before here. absurd (omega arith);
+    reached = λ k d here. absurd (omega arith); few = omega arith }
 
 -- the accepted items behind accepted ones
-pub items-all : (freq : ℕ) (before items : List Item) → AreAcceptedItems freq before → All IsItemInRange items → AreAcceptedItems freq (accepted_items freq before items)
+pub items-all : (freq : ℕ) (before items : List Item) → AreAcceptedItems freq before → All IsItemInRange items
+    → AreAcceptedItems freq (accepted_items freq before items)
 items-all freq before [] are timed = are
 items-all freq before (x ∷ xs) are timed =
     let later : All IsItemInRange xs = All-tail IsItemInRange x xs timed in
@@ -202,7 +218,8 @@ items-all freq before (x ∷ xs) are timed =
     split (accept_item freq before x) refl
 
 -- the accepted items with one more line
-pub item-line : (freq : ℕ) (lines : List Line) (line : Line) → accepted_of freq (lines ++ line ∷ []) ≡ accepted_items freq (accepted_of freq lines) (items_among (line ∷ []))
+pub item-line : (freq : ℕ) (lines : List Line) (line : Line) → accepted_of freq (lines ++ line ∷ []) ≡ accepted_items freq (accepted_of freq lines)
+    (items_among (line ∷ []))
 item-line freq lines line =
     ap (accepted_items freq []) (filter_map-append item_of_line lines (line ∷ []))
     ∙ fold-append (λ all x. accepted_with all x (accept_item freq all x)) [] (items_among lines) (items_among (line ∷ []))

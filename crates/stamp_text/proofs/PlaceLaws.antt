@@ -24,7 +24,10 @@ one_piece : (p : ℕ → Bool) (xs : List ℕ) → position_or_len p xs ≡ leng
 one_piece p xs h = slice_split_none p xs (λ k d below. fails_before_first p xs k d (omega arith))
 
 -- the first piece of a text that is cut at a space, and the rest
-pub cut_pieces : (text : List ℕ) (r : Option (Bor (List ℕ) × Bor (List ℕ))) → IfNone r (position_or_len (λ b. b == 32) text ≡ length text) → OnSome r (position_or_len (λ b. b == 32) text < length text) → IfSome r (λ parts. parts.0.now ≡ before_first (λ b. b == 32) text) → IfSome r (λ parts. parts.1.now ≡ after_first (λ b. b == 32) text) → MatchOption r (pieces_of text ≡ text ∷ []) (λ p. pieces_of text ≡ p.0.now ∷ pieces_of p.1.now)
+pub cut_pieces : (text : List ℕ) (r : Option (Bor (List ℕ) × Bor (List ℕ))) → IfNone r (position_or_len (λ b. b == 32) text ≡ length text)
+    → OnSome r (position_or_len (λ b. b == 32) text < length text) → IfSome r (λ parts. parts.0.now ≡ before_first (λ b. b == 32) text)
+    → IfSome r (λ parts. parts.1.now ≡ after_first (λ b. b == 32) text)
+    → MatchOption r (pieces_of text ≡ text ∷ []) (λ p. pieces_of text ≡ p.0.now ∷ pieces_of p.1.now)
 cut_pieces text None none found before behind = one_piece (λ b. b == 32) text none
 cut_pieces text (Some p) none found before behind = let first = slice_split_first (λ b. b == 32) text 0 found in cc (before, behind)
 
@@ -43,10 +46,13 @@ time_whole text h =
     ap (λ t. cond t (written_of (number_in (before_first is_point text)) (nanos_in (after_first is_point text))) (written_of (number_in text) (Some 0))) none
 
 -- a time with a point
-pub time_cut : (text whole fraction : List ℕ) → position_or_len is_point text < length text → whole ≡ before_first is_point text → fraction ≡ after_first is_point text → time_in text ≡ written_of (number_in whole) (nanos_in fraction)
+pub time_cut : (text whole fraction : List ℕ) → position_or_len is_point text < length text → whole ≡ before_first is_point text
+    → fraction ≡ after_first is_point text → time_in text ≡ written_of (number_in whole) (nanos_in fraction)
 time_cut text whole fraction h before after =
     let some : list_any is_point text ≡ true = any_placed is_point text ∙ grind (arith, nat_tests) in
-    ap (λ t. cond t (written_of (number_in (before_first is_point text)) (nanos_in (after_first is_point text))) (written_of (number_in text) (Some 0))) some ∙ ap (λ t. written_of (number_in t) (nanos_in (after_first is_point text))) (sym before) ∙ ap (λ t. written_of (number_in whole) (nanos_in t)) (sym after)
+    ap (λ t. cond t (written_of (number_in (before_first is_point text)) (nanos_in (after_first is_point text)))
+        (written_of (number_in text) (Some 0))) some ∙ ap (λ t. written_of (number_in t) (nanos_in (after_first is_point text))) (sym before)
+        ∙ ap (λ t. written_of (number_in whole) (nanos_in t)) (sym after)
 
 -- seconds that are capped are so in the time
 written_capped : (sec nanos : Option ℕ) → written_of (option_map (λ n. min n (2 ^ 64 - 1)) sec) nanos ≡ option_map capped (written_of sec nanos)
@@ -55,18 +61,22 @@ written_capped (Some sec) None = refl
 written_capped (Some sec) (Some nanos) = refl
 
 -- the time of a text by its seconds, capped, and its nanoseconds
-pub time_told : (text whole : List ℕ) (sec nanos told : Option ℕ) → time_in text ≡ written_of (number_in whole) nanos → sec ≡ option_map (λ n. min n (2 ^ 64 - 1)) (number_in whole) → told ≡ nanos → written_of sec told ≡ option_map capped (time_in text)
-time_told text whole sec nanos told time e f = ap (λ s. written_of s told) e ∙ ap (written_of (option_map (λ n. min n (2 ^ 64 - 1)) (number_in whole))) f ∙ written_capped (number_in whole) nanos ∙ ap (option_map capped) (sym time)
+pub time_told : (text whole : List ℕ) (sec nanos told : Option ℕ) → time_in text ≡ written_of (number_in whole) nanos
+    → sec ≡ option_map (λ n. min n (2 ^ 64 - 1)) (number_in whole) → told ≡ nanos → written_of sec told ≡ option_map capped (time_in text)
+time_told text whole sec nanos told time e f = ap (λ s. written_of s told) e
+    ∙ ap (written_of (option_map (λ n. min n (2 ^ 64 - 1)) (number_in whole))) f ∙ written_capped (number_in whole) nanos ∙ ap (option_map capped) (sym time)
 
 -- the first place that passes a test, as a search answers it
 pub first_place : (p : ℕ → Bool) (xs : List ℕ) (r : Option ℕ) → IsFirstByte p xs r → r ≡ position p xs
 first_place p xs None h =
-    let none : position_or_len p xs ≡ length xs = position_or_len_is p xs (length xs) 0 (omega arith) (λ k below. false_from_ne_true (p (get_or xs k 0)) (h k (omega arith) below)) (λ no. absurd (omega arith)) in
+    let none : position_or_len p xs ≡ length xs = position_or_len_is p xs (length xs) 0 (omega arith)
+        (λ k below. false_from_ne_true (p (get_or xs k 0)) (h k (omega arith) below)) (λ no. absurd (omega arith)) in
     let past : ltb (position_or_len p xs) (length xs) ≡ false = grind (arith, nat_tests) in
     sym (ap (λ t. cond t (Some (position_or_len p xs)) None) past)
 first_place p xs (Some k) h =
     let first = h.0 in
-    let here : position_or_len p xs ≡ k = position_or_len_is p xs k 0 (omega (arith, first.high)) (λ j below. false_from_ne_true (p (get_or xs j 0)) (first.before j (omega arith) below)) (λ within. h.1) in
+    let here : position_or_len p xs ≡ k = position_or_len_is p xs k 0 (omega (arith, first.high))
+        (λ j below. false_from_ne_true (p (get_or xs j 0)) (first.before j (omega arith) below)) (λ within. h.1) in
     let high = first.high in
     let within : ltb (position_or_len p xs) (length xs) ≡ true = grind (arith, nat_tests) in
     sym (ap (λ t. cond t (Some (position_or_len p xs)) None) within ∙ ap (λ n. Some n) here)

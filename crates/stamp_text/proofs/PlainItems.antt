@@ -55,7 +55,8 @@ reach freq ss are k d within =
     let many = length-map ss (λ s. s.tf) in
     let n : ℕ = length ss - 1 in
     let last : Stamp = get_or ss n blank in
-    let is : (seen_of (map item.Stamp ss)).stamp ≡ Some last = seen-stamp (map item.Stamp ss) ∙ ap last_of (stamps-back ss) ∙ slice_get-get_or ss n blank (omega arith) in
+    let is : (seen_of (map item.Stamp ss)).stamp ≡ Some last = seen-stamp (map item.Stamp ss) ∙ ap last_of (stamps-back ss)
+        ∙ slice_get-get_or ss n blank (omega arith) in
     let here : get_or (map (λ s. s.tf) ss) k d ≡ (get_or ss k blank).tf = count-at ss k d (omega arith) in
     let below : (get_or ss k blank).tf ≤ last.tf = elim (eq-or-lt_of_le {n = k} {m = n} (omega arith)) as (λ _. (get_or ss k blank).tf ≤ last.tf) [
       | inl same ↦ (let e = ap (λ i. (get_or ss i blank).tf) same in omega arith)
@@ -73,11 +74,14 @@ stamps-are-items freq ss are = record {
 }
 
 -- synchronised stamps alone are tested by their times alone
-plain-test : (freq : ℕ) (seen : Seen) (s : Stamp) → seen.set ≡ None → is_unsynchronised s ≡ false → test_of freq seen (item.Stamp s) ≡ accept_of seen.stamp s freq
+plain-test : (freq : ℕ) (seen : Seen) (s : Stamp) → seen.set ≡ None → is_unsynchronised s ≡ false
+    → test_of freq seen (item.Stamp s) ≡ accept_of seen.stamp s freq
 plain-test freq seen s none plain =
     let split : (r : Result (Unit {0}) Refused) → accept_of seen.stamp s freq ≡ r → test_of freq seen (item.Stamp s) ≡ r =
     elim [
-      | Ok o ↦ λ is. stamp-passed freq seen s is ∙ ap (λ t. cond t (Err refused.Unsynchronised) (first_that_holds ((is_not_behind s.ta seen.set, refused.BeforeSet) ∷ []))) plain ∙ ap (λ (o : Option ℕ). first_that_holds ((is_not_behind s.ta o, refused.BeforeSet) ∷ [])) none
+      | Ok o ↦ λ is. stamp-passed freq seen s is ∙ ap (λ t. cond t (Err refused.Unsynchronised)
+          (first_that_holds ((is_not_behind s.ta seen.set, refused.BeforeSet) ∷ []))) plain
+          ∙ ap (λ (o : Option ℕ). first_that_holds ((is_not_behind s.ta o, refused.BeforeSet) ∷ [])) none
       | Err why ↦ λ is. stamp-refused freq seen s why is
     ] in
     split (accept_of seen.stamp s freq) refl
@@ -86,16 +90,19 @@ no-set : (seen : Seen) (ss : List Stamp) → seen.set ≡ None → (fold seen_wi
 no-set seen [] e = e
 no-set seen (s ∷ ss) e = no-set (seen_with seen (item.Stamp s)) ss e
 
-map-with : (before : List Stamp) (s : Stamp) (r : Result (Unit {0}) Refused) → accepted_with (map item.Stamp before) (item.Stamp s) r ≡ map item.Stamp (accepted_with before s r)
+map-with : (before : List Stamp) (s : Stamp) (r : Result (Unit {0}) Refused) → accepted_with (map item.Stamp before) (item.Stamp s) r ≡ map
+    item.Stamp (accepted_with before s r)
 map-with before s (Ok o) = sym (map_push item.Stamp before s)
 map-with before s (Err why) = refl
 
-pub stamps-alone : (freq : ℕ) (before stamps : List Stamp) → All (λ s. is_unsynchronised s ≡ false) stamps → accepted_items freq (map item.Stamp before) (map item.Stamp stamps) ≡ map item.Stamp (accepted_all freq before stamps)
+pub stamps-alone : (freq : ℕ) (before stamps : List Stamp) → All (λ s. is_unsynchronised s ≡ false) stamps
+    → accepted_items freq (map item.Stamp before) (map item.Stamp stamps) ≡ map item.Stamp (accepted_all freq before stamps)
 stamps-alone freq before [] plain = refl
 stamps-alone freq before (s ∷ ss) plain =
     let seen : Seen = seen_of (map item.Stamp before) in
     let here : is_unsynchronised s ≡ false = All-head (λ s. is_unsynchronised s ≡ false) s ss plain in
-    let test : accept_item freq (map item.Stamp before) (item.Stamp s) ≡ accept_of (last_of before) s freq = plain-test freq seen s (no-set nothing_seen before refl) here ∙ ap (λ o. accept_of o s freq) (seen-stamp (map item.Stamp before) ∙ ap last_of (stamps-back before)) in
+    let test : accept_item freq (map item.Stamp before) (item.Stamp s) ≡ accept_of (last_of before) s freq = plain-test freq seen s
+        (no-set nothing_seen before refl) here ∙ ap (λ o. accept_of o s freq) (seen-stamp (map item.Stamp before) ∙ ap last_of (stamps-back before)) in
     ap (λ r. accepted_items freq (accepted_with (map item.Stamp before) (item.Stamp s) r) (map item.Stamp ss)) test
     ∙ ap (λ (all : List Item). accepted_items freq all (map item.Stamp ss)) (map-with before s (accept_of (last_of before) s freq))
     ∙ stamps-alone freq (accepted_with before s (accept_of (last_of before) s freq)) ss (All-tail (λ s. is_unsynchronised s ≡ false) s ss plain)

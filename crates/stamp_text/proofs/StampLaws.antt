@@ -31,12 +31,15 @@ not_two {b} a text behind e =
     ap (λ (ps : List (List ℕ)). two_of (a ∷ ps)) three
 
 -- six pieces that are not empty
-pub six_told : (a b c d e f : List ℕ) (r : Result Stamp Why) → (is_empty a || is_empty b || is_empty c) ≡ false → 0 < length d → 0 < length e → 0 < length f → r ≡ stamp_of_numbers (number_in a) (time_in b) (time_in c) (number_in d) (number_in e) (number_in f) → r ≡ stamp_of_pieces (a ∷ b ∷ c ∷ d ∷ e ∷ f ∷ [])
+pub six_told : (a b c d e f : List ℕ) (r : Result Stamp Why) → (is_empty a || is_empty b || is_empty c) ≡ false → 0 < length d → 0 < length e
+    → 0 < length f → r ≡ stamp_of_numbers (number_in a) (time_in b) (time_in c) (number_in d) (number_in e) (number_in f)
+    → r ≡ stamp_of_pieces (a ∷ b ∷ c ∷ d ∷ e ∷ f ∷ [])
 six_told a b c [] e f r front hd he hf is = absurd (omega arith)
 six_told a b c (d ∷ ds) [] f r front hd he hf is = absurd (omega arith)
 six_told a b c (d ∷ ds) (e ∷ es) [] r front hd he hf is = absurd (omega arith)
 six_told a b c (d ∷ ds) (e ∷ es) (f ∷ fs) r front hd he hf is =
-    is ∙ sym (ap (λ t. cond (t || false || false || false) (Err why.Columns) (stamp_of_numbers (number_in a) (time_in b) (time_in c) (number_in (d ∷ ds)) (number_in (e ∷ es)) (number_in (f ∷ fs)))) front)
+    is ∙ sym (ap (λ t. cond (t || false || false || false) (Err why.Columns)
+        (stamp_of_numbers (number_in a) (time_in b) (time_in c) (number_in (d ∷ ds)) (number_in (e ∷ es)) (number_in (f ∷ fs)))) front)
 
 -- more than four pieces are too many
 pub too_many : (a b c d e : List ℕ) (more : List (List ℕ)) → stamp_of_pieces (with_rest (a ∷ b ∷ c ∷ d ∷ e ∷ more)) ≡ Err why.Columns
@@ -45,7 +48,9 @@ too_many a b c d e (f ∷ []) = refl
 too_many a b c d e (f ∷ g ∷ more) = refl
 
 -- a line of four pieces and what is behind a fourth space
-pub five_pieces : {a b c d : List ℕ} (line behind_a behind_b behind_c behind_d : List ℕ) → pieces_of line ≡ a ∷ pieces_of behind_a → pieces_of behind_a ≡ b ∷ pieces_of behind_b → pieces_of behind_b ≡ c ∷ pieces_of behind_c → pieces_of behind_c ≡ d ∷ pieces_of behind_d → Err why.Columns ≡ stamp_in line
+pub five_pieces : {a b c d : List ℕ} (line behind_a behind_b behind_c behind_d : List ℕ) → pieces_of line ≡ a ∷ pieces_of behind_a
+    → pieces_of behind_a ≡ b ∷ pieces_of behind_b → pieces_of behind_b ≡ c ∷ pieces_of behind_c → pieces_of behind_c ≡ d ∷ pieces_of behind_d
+    → Err why.Columns ≡ stamp_in line
 unfolding stamp_in
 five_pieces {a} {b} {c} {d} line behind_a behind_b behind_c behind_d e f g h =
     let some = some_piece behind_d in
@@ -53,18 +58,23 @@ five_pieces {a} {b} {c} {d} line behind_a behind_b behind_c behind_d e f g h =
     sym (ap (λ (ps : List (List ℕ)). stamp_of_pieces (with_rest ps)) five ∙ too_many a b c d some.0 some.1)
 
 -- a first piece, four more and what is behind a further space
-pub seven_pieces : {a b c d e : List ℕ} (first rest behind_a behind_b behind_c behind_d behind_e : List ℕ) → pieces_of rest ≡ a ∷ pieces_of behind_a → pieces_of behind_a ≡ b ∷ pieces_of behind_b → pieces_of behind_b ≡ c ∷ pieces_of behind_c → pieces_of behind_c ≡ d ∷ pieces_of behind_d → pieces_of behind_d ≡ e ∷ pieces_of behind_e → Err why.Columns ≡ stamp_of_pieces (first ∷ pieces_of rest)
+pub seven_pieces : {a b c d e : List ℕ} (first rest behind_a behind_b behind_c behind_d behind_e : List ℕ) → pieces_of rest ≡ a ∷ pieces_of behind_a
+    → pieces_of behind_a ≡ b ∷ pieces_of behind_b → pieces_of behind_b ≡ c ∷ pieces_of behind_c → pieces_of behind_c ≡ d ∷ pieces_of behind_d
+    → pieces_of behind_d ≡ e ∷ pieces_of behind_e → Err why.Columns ≡ stamp_of_pieces (first ∷ pieces_of rest)
 seven_pieces {a} {b} {c} {d} {e} first rest behind_a behind_b behind_c behind_d behind_e f g h i j =
     let some = some_piece behind_e in
     let seven : pieces_of rest ≡ a ∷ b ∷ c ∷ d ∷ e ∷ some.0 ∷ some.1 = cc (some.2) in
     sym (ap (λ (ps : List (List ℕ)). stamp_of_pieces (first ∷ ps)) seven)
 
 -- numbers that are capped are out of range alike
-within_capped : (a : ℕ) (b c : Written) (d e f : ℕ) → stamp_within (min a (2 ^ 64 - 1)) (capped b) (capped c) (min d (2 ^ 64 - 1)) (min e (2 ^ 64 - 1)) (min f (2 ^ 64 - 1)) ≡ stamp_within a b c d e f
+within_capped : (a : ℕ) (b c : Written) (d e f : ℕ) → stamp_within (min a (2 ^ 64 - 1)) (capped b) (capped c) (min d (2 ^ 64 - 1))
+    (min e (2 ^ 64 - 1)) (min f (2 ^ 64 - 1)) ≡ stamp_within a b c d e f
 within_capped a b c d e f = grind (arith, nat_tests)
 
 -- numbers that are capped make the same stamp
-pub numbers_capped : (a : Option ℕ) (b c : Option Written) (d e f : Option ℕ) → stamp_of_numbers (option_map (λ n. min n (2 ^ 64 - 1)) a) (option_map capped b) (option_map capped c) (option_map (λ n. min n (2 ^ 64 - 1)) d) (option_map (λ n. min n (2 ^ 64 - 1)) e) (option_map (λ n. min n (2 ^ 64 - 1)) f) ≡ stamp_of_numbers a b c d e f
+pub numbers_capped : (a : Option ℕ) (b c : Option Written) (d e f : Option ℕ) → stamp_of_numbers (option_map (λ n. min n (2 ^ 64 - 1)) a)
+    (option_map capped b) (option_map capped c) (option_map (λ n. min n (2 ^ 64 - 1)) d) (option_map (λ n. min n (2 ^ 64 - 1)) e)
+    (option_map (λ n. min n (2 ^ 64 - 1)) f) ≡ stamp_of_numbers a b c d e f
 numbers_capped (Some a) (Some b) (Some c) (Some d) (Some e) (Some f) = within_capped a b c d e f
 numbers_capped None b c d e f = refl
 numbers_capped (Some a) None c d e f = refl

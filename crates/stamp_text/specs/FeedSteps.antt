@@ -20,7 +20,8 @@ at_line n (Err w) = Err (record { line = n; why = w })
 
 -- where no fault was found before
 abbrev pub sound_answer : Bool → ℕ → List ℕ → ℕ → Result (Option Line) LineFault
-sound_answer second n line b = if b == line_feed then at_line n (short_says second n line) else if length line == line_limit then Err (record { line = n; why = why.LongLine }) else Ok None
+sound_answer second n line b = if b == line_feed then at_line n (short_says second n line) else if length line == line_limit then Err
+    (record { line = n; why = why.LongLine }) else Ok None
 
 abbrev pub unless_faulty : Option LineFault → Result (Option Line) LineFault → Result (Option Line) LineFault
 unless_faulty None answer = answer
@@ -34,7 +35,8 @@ abbrev pub second_after : ℕ → Bool → List ℕ → Bool
 second_after ended second line = if ended == 0 then is_second (without_return line) else second
 
 abbrev pub step_kept : Kept → ℕ → Result (Option Line) LineFault → Kept
-step_kept k b (Ok o) = if b == line_feed then record { ended = line_number k.ended; second = second_after k.ended k.second k.line; line = []; fault = k.fault } else record k { line = k.line ++ b ∷ [] }
+step_kept k b (Ok o) = if b == line_feed then record { ended = line_number k.ended; second = second_after k.ended k.second k.line; line = [];
+    fault = k.fault } else record k { line = k.line ++ b ∷ [] }
 step_kept k b (Err f) = record k { fault = Some f }
 
 abbrev pub second_line : ℕ → Result (Option Line) LineFault → Result (Option Line) LineFault

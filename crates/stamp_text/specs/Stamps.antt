@@ -16,7 +16,9 @@ pieces_of line = slice_split (λ b. b == space) line
 
 -- counters below 2^62, seconds below 2^32, a stratum below 256 and a leap below 4
 abbrev pub stamp_within : ℕ → Written → Written → ℕ → ℕ → ℕ → Result Stamp Why
-stamp_within ta tb te tf stratum leap = if nat_lt ta count_limit && nat_lt tb.sec second_limit && nat_lt te.sec second_limit && nat_lt tf count_limit && nat_lt stratum stratum_limit && nat_lt leap leap_limit then Ok (record { ta = ta; tb = of_nanos tb.sec tb.nanos; te = of_nanos te.sec te.nanos; tf = tf; stratum = stratum; leap = leap }) else Err why.Range
+stamp_within ta tb te tf stratum leap = if nat_lt ta count_limit && nat_lt tb.sec second_limit && nat_lt te.sec second_limit && nat_lt tf count_limit
+    && nat_lt stratum stratum_limit && nat_lt leap leap_limit then Ok
+    (record { ta = ta; tb = of_nanos tb.sec tb.nanos; te = of_nanos te.sec te.nanos; tf = tf; stratum = stratum; leap = leap }) else Err why.Range
 
 -- a counter, two times, and three numbers
 abbrev pub stamp_of_numbers : Option ℕ → Option Written → Option Written → Option ℕ → Option ℕ → Option ℕ → Result Stamp Why
@@ -29,7 +31,8 @@ is_empty (b ∷ bs) = false
 
 -- six pieces, none of them empty
 abbrev pub stamp_of_pieces : List (List ℕ) → Result Stamp Why
-stamp_of_pieces (a ∷ b ∷ c ∷ d ∷ e ∷ f ∷ []) = if is_empty a || is_empty b || is_empty c || is_empty d || is_empty e || is_empty f then Err why.Columns else stamp_of_numbers (number_in a) (time_in b) (time_in c) (number_in d) (number_in e) (number_in f)
+stamp_of_pieces (a ∷ b ∷ c ∷ d ∷ e ∷ f ∷ []) = if is_empty a || is_empty b || is_empty c || is_empty d || is_empty e
+    || is_empty f then Err why.Columns else stamp_of_numbers (number_in a) (time_in b) (time_in c) (number_in d) (number_in e) (number_in f)
 stamp_of_pieces _ = Err why.Columns
 
 -- a line of version 1 has four pieces: its stratum is 1, and its leap 0

@@ -26,7 +26,8 @@ is_point b = b == point
 
 -- the time that a text is: a number, or a number, the first point and one to nine digits
 abbrev pub time_in : List ℕ → Option Written
-time_in text = if list_any is_point text then written_of (number_in (before_first is_point text)) (nanos_in (after_first is_point text)) else written_of (number_in text) (Some 0)
+time_in text = if list_any is_point text then written_of (number_in (before_first is_point text))
+    (nanos_in (after_first is_point text)) else written_of (number_in text) (Some 0)
 
 -- a time with its seconds, or with the greatest number of 64 bits where they are more
 abbrev pub capped : Written → Written

@@ -25,7 +25,8 @@ count_full kind.Fast at counter way = quick_full way
 count_full kind.Diff at counter way = quick_full way
 count_full kind.Back at counter way = past_full way
 
-pub reading_newest : (ticks : List Hands) (h : Hands) (k : Kind) (len count counter : ℕ) (r : Reading) → h ≡ newest ticks → len ≡ length ticks → count ≡ count_of k h.count counter → r ≡ reading_at h (len - 1) k count
+pub reading_newest : (ticks : List Hands) (h : Hands) (k : Kind) (len count counter : ℕ) (r : Reading) → h ≡ newest ticks → len ≡ length ticks
+    → count ≡ count_of k h.count counter → r ≡ reading_at h (len - 1) k count
     → r ≡ reading_at (newest ticks) (length ticks - 1) k (count_of k (newest ticks).count counter)
 reading_newest ticks h k len count counter r is many at r-is =
     r-is ∙ ((λ i. reading_at h (many i - 1) k (at i)) ∙ ap (λ (g : Hands). reading_at g (length ticks - 1) k (count_of k g.count counter)) is)

@@ -32,11 +32,14 @@ pub newest-at : (ticks : List Hands) → IsJournal ticks → slice_get ticks (le
 newest-at ticks j = let some-tick = journal-some ticks j in slice_get-get_or ticks (length ticks - 1) cold (omega arith)
 
 -- a value of the counter that the seat learned, as the pen shows it
-pub counter-shown : (p : PenView) (s : PenShows) (c : ℕ) → p.journal ≡ s.journal → p.counters ≡ s.counters → p.top ≡ s.top → p.out ≡ s.out → IsJournal s.journal → LearnsCounter p c → IsCounter s c
+pub counter-shown : (p : PenView) (s : PenShows) (c : ℕ) → p.journal ≡ s.journal → p.counters ≡ s.counters → p.top ≡ s.top → p.out ≡ s.out
+    → IsJournal s.journal → LearnsCounter p c → IsCounter s c
 counter-shown p s c journal counters top out legal l = record {
   top = subst (λ t. t ≤ c) top l.top;
   home = λ e. l.home (out ∙ e) ∙ top;
-  reached = l.reached (length s.journal - 1) (newest s.journal) (subst (λ (js : List Hands). get_elem? js (length s.journal - 1) ≡ some (newest s.journal)) (sym journal) (to_some s.journal (length s.journal - 1) (newest s.journal) (newest-at s.journal legal)));
+  reached = l.reached (length s.journal - 1) (newest s.journal)
+      (subst (λ (js : List Hands). get_elem? js (length s.journal - 1) ≡ some (newest s.journal)) (sym journal)
+      (to_some s.journal (length s.journal - 1) (newest s.journal) (newest-at s.journal legal)));
   later = λ i x e. l.later i x (subst (λ (xs : List ℕ). get_elem? xs i ≡ some x) (sym counters) e);
   small = l.small;
 }

@@ -47,7 +47,8 @@ record Same (p q : PenView) (more : List ℕ) : Type 0 where
 
 counted-same : (b : Bool) (c : ℕ) (p : PenView) → Same p (counted_if b c p) (tested_if b c)
 counted-same true c p = record { journal = refl; winding = refl; top = refl; met = refl; out = refl; made = refl; kept = refl; counters = refl }
-counted-same false c p = record { journal = refl; winding = refl; top = refl; met = refl; out = refl; made = refl; kept = refl; counters = sym (append-nil p.counters) }
+counted-same false c p = record { journal = refl; winding = refl; top = refl; met = refl; out = refl; made = refl; kept = refl;
+    counters = sym (append-nil p.counters) }
 
 -- no value is above the front of a list where none is above the whole
 front-below : (c : ℕ) (xs ys : List ℕ) → AllBelow c (xs ++ ys) → AllBelow c xs
@@ -68,9 +69,11 @@ taken_parts false c s r e = (refl, taken_ahead c r e)
 
 -- the pen as contracts see it
 abbrev pub show : TableId → List Hands → ℕ → ℕ → Bool → ℕ → PenView → PenShows
-show table ticks spare top out made p = record { table = table; journal = ticks; spare = spare; counters = p.counters; top = top; met = p.met; out = out; made = made; kept = p.kept }
+show table ticks spare top out made p = record { table = table; journal = ticks; spare = spare; counters = p.counters; top = top; met = p.met;
+    out = out; made = made; kept = p.kept }
 
-module _ (p0 p1 : PenView) (ticks : List Hands) (top : ℕ) (out : Bool) (made : ℕ) (holds : PenHolds p0 ticks top out made) (last : Hands) (o : Order) (last-is : last ≡ newest ticks) where
+module _ (p0 p1 : PenView) (ticks : List Hands) (top : ℕ) (out : Bool) (made : ℕ) (holds : PenHolds p0 ticks top out made) (last : Hands) (o : Order)
+    (last-is : last ≡ newest ticks) where
   abbrev old : TableId → ℕ → PenShows
   old table spare = show table ticks spare top out made p0
 
@@ -79,13 +82,15 @@ module _ (p0 p1 : PenView) (ticks : List Hands) (top : ℕ) (out : Bool) (made :
 
   module _ (found : Option Refuse) (t : Tested p0 p1 last o found) where
     tested-same : Same p0 p1 (tested_if (tests_counter last o) t.counter)
-    tested-same = subst (λ (q : PenView). Same p0 q (tested_if (tests_counter last o) t.counter)) (sym t.view) (counted-same (tests_counter last o) t.counter p0)
+    tested-same = subst (λ (q : PenView). Same p0 q (tested_if (tests_counter last o) t.counter)) (sym t.view)
+        (counted-same (tests_counter last o) t.counter p0)
 
     tested-counters : p1.counters ≡ p0.counters ++ tested_if (tests_counter (newest ticks) o) t.counter
     tested-counters = tested-same.counters ∙ ap (λ b. p0.counters ++ tested_if b t.counter) tests-same
 
     tested-shown : (table : TableId) (spare : ℕ) → tests_counter (newest ticks) o ≡ true → IsCounter (old table spare) t.counter
-    tested-shown table spare e = counter-shown p0 (old table spare) t.counter holds.journal refl holds.top_is holds.out_is holds.legal (t.learns (tests-same ∙ e))
+    tested-shown table spare e = counter-shown p0 (old table spare) t.counter holds.journal refl holds.top_is holds.out_is holds.legal
+        (t.learns (tests-same ∙ e))
 
     -- nothing has changed but what was loaded
     pub holds-tested : PenHolds p1 ticks top out made
@@ -100,7 +105,8 @@ module _ (p0 p1 : PenView) (ticks : List Hands) (top : ℕ) (out : Bool) (made :
       given = λ i k e. subst (λ m. k.number < m) (sym s.made) (holds.given i k (subst (λ (ks : List Kept). get_elem? ks i ≡ some k) s.kept e));
     }
 
-  pub refused : (table table' : TableId) (spare : ℕ) (why : Refuse) → Tested p0 p1 last o (Some why) → table' ≡ table → Winds (old table spare) (show table' ticks spare top out made p1) o (Err why)
+  pub refused : (table table' : TableId) (spare : ℕ) (why : Refuse) → Tested p0 p1 last o (Some why) → table' ≡ table
+      → Winds (old table spare) (show table' ticks spare top out made p1) o (Err why)
   refused table table' spare why t same = record {
     tested = t.counter;
     count = 0;
@@ -108,13 +114,15 @@ module _ (p0 p1 : PenView) (ticks : List Hands) (top : ℕ) (out : Bool) (made :
     count_is = λ n e. absurd (err_ok n why e);
     later = λ n e. absurd (err_ok n why e);
     answer = ap (answer_by (length ticks)) (t.answer ∙ ap (λ (h : Hands). refusal h t.counter o) last-is);
-    after = λ i. record { table = same i; journal = ticks; spare = spare; counters = tested-counters (Some why) t i; top = top; met = (tested-same (Some why) t).met i; out = out; made = made; kept = (tested-same (Some why) t).kept i };
+    after = λ i. record { table = same i; journal = ticks; spare = spare; counters = tested-counters (Some why) t i; top = top;
+        met = (tested-same (Some why) t).met i; out = out; made = made; kept = (tested-same (Some why) t).kept i };
   }
     where
       err_ok : (n : ℕ) (why : Refuse) → Err why ≡ Ok n → ⊥
       err_ok n why e = cc
 
-  module _ (t : Tested p0 p1 last o None) (p2 : PenView) (count : ℕ) (v2 : p2 ≡ pen_counted count (turn_started p1)) (learns : LearnsCounter (turn_started p1) count) where
+  module _ (t : Tested p0 p1 last o None) (p2 : PenView) (count : ℕ) (v2 : p2 ≡ pen_counted count (turn_started p1))
+      (learns : LearnsCounter (turn_started p1) count) where
     at_end : slice_get ticks (length ticks - 1) ≡ Some last
     at_end = newest-at ticks holds.legal ∙ ap Some (sym last-is)
 
@@ -125,7 +133,8 @@ module _ (p0 p1 : PenView) (ticks : List Hands) (top : ℕ) (out : Bool) (made :
     journal2 = ap (λ (v : PenView). v.journal) v2 ∙ journal1
 
     past : last.count ≤ count
-    past = learns.reached (length ticks - 1) last (subst (λ (l : List Hands). get_elem? l (length ticks - 1) ≡ some last) (sym journal1) (to_some ticks (length ticks - 1) last at_end))
+    past = learns.reached (length ticks - 1) last (subst (λ (l : List Hands). get_elem? l (length ticks - 1) ≡ some last) (sym journal1)
+        (to_some ticks (length ticks - 1) last at_end))
 
     -- the count, as the pen would have met it before
     learns-before : LearnsCounter p0 count
@@ -140,15 +149,19 @@ module _ (p0 p1 : PenView) (ticks : List Hands) (top : ℕ) (out : Bool) (made :
     -- what was loaded for the test is not above the count
     tested-below : tests_counter last o ≡ true → t.counter ≤ count
     tested-below e = let is : p1 ≡ pen_counted t.counter p0 = t.view ∙ ap (λ z. counted_if z t.counter p0) e in
-        learns.later (length p0.counters) t.counter (subst (λ (v : PenView). get_elem? v.counters (length p0.counters) ≡ some t.counter) (sym is) (at_last p0.counters t.counter (length p0.counters) refl))
+        learns.later (length p0.counters) t.counter (subst (λ (v : PenView). get_elem? v.counters (length p0.counters) ≡ some t.counter) (sym is)
+            (at_last p0.counters t.counter (length p0.counters) refl))
 
     in_time : (z : Order) → o ≡ z → is_in_time last count z ≡ true
     in_time order.Plain e = refl
-    in_time (order.Take est) e = let b = taken_parts (nat_le est.update_ffcount last.est.update_ffcount) (nat_lt t.counter est.update_ffcount) _ _ (t.answer ∙ ap (refusal last t.counter) e) in
-        let low : last.est.update_ffcount < est.update_ffcount = leb-false _ _ b.0 in let high : est.update_ffcount ≤ t.counter = ltb-false _ _ b.1 in let up = tested-below (ap (tests_counter last) e ∙ ap not b.0) in
+    in_time (order.Take est) e = let b = taken_parts (nat_le est.update_ffcount last.est.update_ffcount) (nat_lt t.counter est.update_ffcount) _ _
+        (t.answer ∙ ap (refusal last t.counter) e) in
+        let low : last.est.update_ffcount < est.update_ffcount = leb-false _ _ b.0 in
+            let high : est.update_ffcount ≤ t.counter = ltb-false _ _ b.1 in let up = tested-below (ap (tests_counter last) e ∙ ap not b.0) in
         ap₂ (λ x y. x && y) (le-true est.update_ffcount count (omega arith)) (lt-true last.est.update_ffcount est.update_ffcount low)
     in_time (order.Reset est) e = let c = taken_ahead (nat_lt t.counter est.update_ffcount) _ (t.answer ∙ ap (refusal last t.counter) e) in
-        let high : est.update_ffcount ≤ t.counter = ltb-false _ _ c in let up = tested-below (ap (tests_counter last) e) in le-true est.update_ffcount count (omega arith)
+        let high : est.update_ffcount ≤ t.counter = ltb-false _ _ c in let up = tested-below (ap (tests_counter last) e) in
+            le-true est.update_ffcount count (omega arith)
 
     module _ (sane : is_sane o ≡ true) where
       pub fits_it : fits last count o ≡ true
@@ -179,7 +192,8 @@ module _ (p0 p1 : PenView) (ticks : List Hands) (top : ℕ) (out : Bool) (made :
                   (holds.given i k (subst (λ (ks : List Kept). get_elem? ks i ≡ some k) (published.kept ∙ (ap (λ (v : PenView). v.kept) v2 ∙ s.kept)) e));
             }
 
-            pub wound_it : (table table' : TableId) (spare spare' n : ℕ) → table' ≡ table → spare' ≡ spare - 1 → n ≡ length ticks → Winds (old table spare) (show table' ticks' spare' top out made p3) o (Ok n)
+            pub wound_it : (table table' : TableId) (spare spare' n : ℕ) → table' ≡ table → spare' ≡ spare - 1 → n ≡ length ticks
+                → Winds (old table spare) (show table' ticks' spare' top out made p3) o (Ok n)
             wound_it table table' spare spare' n same less number = let s = tested-same None t in record {
               tested = t.counter;
               count = count;
@@ -191,7 +205,9 @@ module _ (p0 p1 : PenView) (ticks : List Hands) (top : ℕ) (out : Bool) (made :
                 table = same i;
                 journal = (items ∙ ap (λ (x : Hands). ticks ++ x ∷ []) (is ∙ ap (λ (x : Hands). wind_of x count o) last-is)) i;
                 spare = less i;
-                counters = (published.counters ∙ (ap (λ (v : PenView). v.counters) v2 ∙ (ap (λ l. l ++ count ∷ []) (tested-counters None t) ∙ append_assoc p0.counters (tested_if (tests_counter (newest ticks) o) t.counter) (count ∷ [])))) i;
+                counters = (published.counters ∙ (ap (λ (v : PenView). v.counters) v2
+                    ∙ (ap (λ l. l ++ count ∷ []) (tested-counters None t) ∙ append_assoc p0.counters
+                    (tested_if (tests_counter (newest ticks) o) t.counter) (count ∷ [])))) i;
                 top = top;
                 met = (published.met ∙ (ap (λ (v : PenView). v.met) v2 ∙ s.met)) i;
                 out = out;

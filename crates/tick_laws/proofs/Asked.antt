@@ -17,7 +17,8 @@ whole-asked k given loads e at (turn_open w odd) = refl
 whole-asked k given loads e at (turn_moved n fields c x long other) = refl
 whole-asked k given loads e at (turn_still n fields c long) = (refl, at c)
 
-light-asked : (ask : Ask) (loads : List Load) (e : Entry) → ((h : Hands) → IsGiven ask.kind ask.given (count_by ask.kind ask.given h 0)) → ReadsLight ask loads e → IsAnswerTo ask.kind ask.given e
+light-asked : (ask : Ask) (loads : List Load) (e : Entry) → ((h : Hands) → IsGiven ask.kind ask.given (count_by ask.kind ask.given h 0)) → ReadsLight
+    ask loads e → IsAnswerTo ask.kind ask.given e
 light-asked ask loads e at (mark_moved w fields x long other) = refl
 light-asked ask loads e at (mark_still w fields long) = (refl, at _)
 

@@ -71,12 +71,15 @@ at_right : (xs ys : List ℕ) (j y : ℕ) → get_elem? ys j ≡ some y → (k :
 at_right [] ys j y at = (j, at)
 at_right (x ∷ xs) ys j y at = let r = at_right xs ys j y at in (suc r.0, r.1)
 
-count_among : (log : List Noted) (i c : ℕ) (n : Noted) → get_elem? log i ≡ some n → count_shown n.entry ≡ Some c → (k : ℕ) × (get_elem? (counts_of log) k ≡ some c)
+count_among : (log : List Noted) (i c : ℕ) (n : Noted) → get_elem? log i ≡ some n → count_shown n.entry ≡ Some c → (k : ℕ)
+    × (get_elem? (counts_of log) k ≡ some c)
 count_among [] i c n at shown = absurd (some-ne-none n (sym at))
-count_among (x ∷ xs) zero c n at shown = let is = counts_of_it x.entry c (ap (λ (z : Noted). count_shown z.entry) (some-injective x n at) ∙ shown) in (0, ap (λ l. get_elem? (l ++ counts_of xs) 0) is)
+count_among (x ∷ xs) zero c n at shown = let is = counts_of_it x.entry c (ap (λ (z : Noted). count_shown z.entry) (some-injective x n at) ∙ shown) in
+    (0, ap (λ l. get_elem? (l ++ counts_of xs) 0) is)
 count_among (x ∷ xs) (suc i) c n at shown = let r = count_among xs i c n at shown in at_right (counts_in x.entry) (counts_of xs) r.0 c r.1
 
-counts_at : (log : List Noted) → NeverFall (counts_of log) → (i j x y : ℕ) (d e : Noted) → i < j → get_elem? log i ≡ some d → get_elem? log j ≡ some e → count_shown d.entry ≡ Some x → count_shown e.entry ≡ Some y → x ≤ y
+counts_at : (log : List Noted) → NeverFall (counts_of log) → (i j x y : ℕ) (d e : Noted) → i < j → get_elem? log i ≡ some d
+    → get_elem? log j ≡ some e → count_shown d.entry ≡ Some x → count_shown e.entry ≡ Some y → x ≤ y
 counts_at [] r i j x y d e less a b p q = absurd (some-ne-none d (sym a))
 counts_at (n ∷ ns) r zero zero x y d e less a b p q = absurd (omega arith)
 counts_at (n ∷ ns) r zero (suc j) x y d e less a b p q = let is = counts_of_it n.entry x (ap (λ (z : Noted). count_shown z.entry) (some-injective n d a) ∙ p) in
@@ -85,18 +88,21 @@ counts_at (n ∷ ns) r (suc i) zero x y d e less a b p q = absurd (omega arith)
 counts_at (n ∷ ns) r (suc i) (suc j) x y d e less a b p q = counts_at ns (rises_rest (counts_in n.entry) (counts_of ns) r) i j x y d e (omega arith) a b p q
 
 -- beside no open windup
-module _ (w : World) (legal : IsJournal w.journal) (closed : w.turn ≡ 2 * (length w.journal - 1)) (some-tick : 0 < length w.journal) (bound : w.bound ≡ w.counter) (reached : (m : ℕ) (h : Hands) → get_elem? w.journal m ≡ some h → h.count ≤ w.counter) where
+module _ (w : World) (legal : IsJournal w.journal) (closed : w.turn ≡ 2 * (length w.journal - 1)) (some-tick : 0 < length w.journal)
+    (bound : w.bound ≡ w.counter) (reached : (m : ℕ) (h : Hands) → get_elem? w.journal m ≡ some h → h.count ≤ w.counter) where
   next_of : (n c : ℕ) → IsTimely w n c → (next : Hands) → slice_get w.journal (n + 1) ≡ Some next → c ≤ next.count
   next_of n c t next at = t.next next (to_some w.journal (n + 1) next at)
 
   timely_within : (n c : ℕ) → n < length w.journal → IsTimely w n c → c ≤ w.counter
-  timely_within n c in-J t = dite (ℕ_discrete (length w.journal) (n + 1)) (λ last. subst (λ b. c ≤ b) bound (t.last last)) (λ ne. let m = there w.journal (n + 1) (omega arith) in le_trans (t.next m.0 m.1) (reached (n + 1) m.0 m.1))
+  timely_within n c in-J t = dite (ℕ_discrete (length w.journal) (n + 1)) (λ last. subst (λ b. c ≤ b) bound (t.last last))
+      (λ ne. let m = there w.journal (n + 1) (omega arith) in le_trans (t.next m.0 m.1) (reached (n + 1) m.0 m.1))
 
   -- the tick that a past count was read by is its line
   line_is : (n : ℕ) (h : Hands) (c : ℕ) → get_elem? w.journal n ≡ some h → (n ≡ 0) ⊎ (h.count < c) → IsTimely w n c → line_of w.journal c ≡ Some n
   line_is n h c at below t = is-line_of w.journal c n (journal-rises w.journal legal) record {
     there = in_list w.journal n h at;
-    below = λ g here above. let same : h ≡ g = Some_same h g (sym (to_Some w.journal n h at) ∙ here) in subst (λ (x : Hands). x.count < c) same (⊎_elim (λ (z : n ≡ 0). absurd (omega arith)) (λ (less : h.count < c). less) below);
+    below = λ g here above. let same : h ≡ g = Some_same h g (sym (to_Some w.journal n h at) ∙ here) in
+        subst (λ (x : Hands). x.count < c) same (⊎_elim (λ (z : n ≡ 0). absurd (omega arith)) (λ (less : h.count < c). less) below);
     last = λ m g after here. let within = slice_get_within w.journal m g here in let next = there w.journal (n + 1) (omega arith) in
         le_trans (t.next next.0 next.1) (counts-rise w.journal (n + 1) m next.0 g legal (omega arith) (to_Some w.journal (n + 1) next.0 next.1) here);
   }
@@ -124,32 +130,38 @@ module _ (w : World) (legal : IsJournal w.journal) (closed : w.turn ≡ 2 * (len
     read_within kind.Back x f e = counted given x e (timely_within n given (in_list w.journal n h at) f.1)
 
   read_legal : (o : ℕ) (r : Reading) → FitsRead w o r → IsReading w.journal r
-  read_legal o r f = subst (IsReading w.journal) (sym f.is) record { hands = f.hands; tick = to_Some w.journal r.tick f.hands f.at; time = refl; bound = refl; place = placed f.ask.given r.tick f.hands f.counter f.at f.ask.kind f.count }
+  read_legal o r f = subst (IsReading w.journal) (sym f.is) record { hands = f.hands; tick = to_Some w.journal r.tick f.hands f.at; time = refl;
+      bound = refl; place = placed f.ask.given r.tick f.hands f.counter f.at f.ask.kind f.count }
 
   crossed_legal : (o first last : ℕ) → MetWindup w o first last → logs.Crossed w.journal first last
   crossed_legal o first last f = let below : last ≤ w.turn = f.1 in record {
-    met = ⊎_elim (λ (open_one : (first ≡ last) × (first % 2 ≡ 1)). inl (open_one.1, sym open_one.0)) (λ (came : (first < last) × (first % 2 ≡ 0)). inr (came.1, came.0)) f.2;
+    met = ⊎_elim (λ (open_one : (first ≡ last) × (first % 2 ≡ 1)). inl (open_one.1, sym open_one.0))
+        (λ (came : (first < last) × (first % 2 ≡ 0)). inr (came.1, came.0)) f.2;
     made = omega arith;
   }
 
   overtaken_legal : (m o first last : ℕ) → m ≤ o / 2 → o ≤ w.turn → LostSlot w m first last → logs.Overtaken w.journal first last
-  overtaken_legal m o first last near began f = let k : ℕ = f.1.0 in let up : m + 10 ≤ k = f.1.2 in let same : k % 10 ≡ m % 10 = f.1.3 in let top : k ≤ (w.turn + 1) / 2 = f.1.4 in
+  overtaken_legal m o first last near began f = let k : ℕ = f.1.0 in let up : m + 10 ≤ k = f.1.2 in let same : k % 10 ≡ m % 10 = f.1.3 in
+      let top : k ≤ (w.turn + 1) / 2 = f.1.4 in
       let k-is : (last - 1) / 2 ≡ k = ⊎_elim (λ (odd : last ≡ 2 * k + 1). omega arith) (λ (even : last ≡ 2 * k + 2). omega arith) f.1.1 in
       record { tick = m; there = omega arith; mark = f.0; later = omega arith; slot = ap (λ t. t % 10) k-is ∙ same; made = omega arith }
 
   again_legal : (y : Way) (o first last : ℕ) → o ≤ w.turn → FitsAgain w y o first last → IsAgain y w.journal first last
   again_legal full o first last began f = crossed_legal o first last f
   again_legal quick o first last began f = overtaken_legal (o / 2) o first last (le_refl (o / 2)) began f
-  again_legal past o first last began f = ⊎_elim (λ (x : MetWindup w o first last). inl (crossed_legal o first last x)) (λ (x : (m : ℕ) × IsReadSince past m o × LostSlot w m first last). inr (overtaken_legal x.0 o first last x.1.0 began x.2)) f
+  again_legal past o first last began f = ⊎_elim (λ (x : MetWindup w o first last). inl (crossed_legal o first last x))
+      (λ (x : (m : ℕ) × IsReadSince past m o × LostSlot w m first last). inr (overtaken_legal x.0 o first last x.1.0 began x.2)) f
 
   entry_legal : (o : ℕ) (e : Entry) → o ≤ w.turn → FitsEntry w o e → IsEntry w.journal e
   entry_legal o (Read r) began f = read_legal o r f
   entry_legal o (Again k a b) began f = again_legal (way_of k) o a b began f
-  entry_legal o (TooOld c a) began f = record { tick = f.tick; some = f.some_tick; hands = f.hands; at = to_Some w.journal f.tick f.hands f.at; oldest_is = f.is; not_after = f.not_after; made = let there = f.reached in let later = f.later in omega arith }
+  entry_legal o (TooOld c a) began f = record { tick = f.tick; some = f.some_tick; hands = f.hands; at = to_Some w.journal f.tick f.hands f.at;
+      oldest_is = f.is; not_after = f.not_after; made = let there = f.reached in let later = f.later in omega arith }
   entry_legal o (Ahead c a) began f = f
 
   entry_within : (o : ℕ) (e : Entry) (x : ℕ) → FitsEntry w o e → ((c : ℕ) → count_shown e ≡ Some c → c ≤ w.counter) → count_reached e ≡ Some x → x ≤ w.counter
-  entry_within o (Read r) x f below e = read_within f.ask.given r.tick f.hands f.counter f.at f.ask.kind x f.count (sym (ap (λ (z : Reading). reached_by z.kind z.count) f.is) ∙ e)
+  entry_within o (Read r) x f below e = read_within f.ask.given r.tick f.hands f.counter f.at f.ask.kind x f.count
+      (sym (ap (λ (z : Reading). reached_by z.kind z.count) f.is) ∙ e)
   entry_within o (Again k a b) x f below e = cc
   entry_within o (TooOld c a) x f below e = cc
   entry_within o (Ahead c a) x f below e = below x e
@@ -191,18 +203,24 @@ module _ (w : World) (log : List Noted) (f : FitsLog w log) where
   ticks_in_order : (x y a b : ℕ) → x ≡ a / 2 → y ≡ b / 2 → a ≤ b → x ≤ y
   ticks_in_order x y a b p q up = omega arith
 
-  module _ (legal : IsJournal w.journal) (closed : w.turn ≡ 2 * (length w.journal - 1)) (some-tick : 0 < length w.journal) (bound : w.bound ≡ w.counter) (reached : (m : ℕ) (h : Hands) → get_elem? w.journal m ≡ some h → h.count ≤ w.counter) where
+  module _ (legal : IsJournal w.journal) (closed : w.turn ≡ 2 * (length w.journal - 1)) (some-tick : 0 < length w.journal)
+      (bound : w.bound ≡ w.counter) (reached : (m : ℕ) (h : Hands) → get_elem? w.journal m ≡ some h → h.count ≤ w.counter) where
     pub log_legal : IsLog w.journal (map entry_of log)
     log_legal = record {
-      each = λ k e at. let n = noted_at log k e at in subst (IsEntry w.journal) n.2 (entry_legal w legal closed some-tick bound reached n.0.opening n.0.entry (f.below k n.0.opening (opening_at log k n.0 n.1)) (f.each k n.0 n.1));
+      each = λ k e at. let n = noted_at log k e at in subst (IsEntry w.journal) n.2
+          (entry_legal w legal closed some-tick bound reached n.0.opening n.0.entry (f.below k n.0.opening (opening_at log k n.0 n.1)) (f.each k n.0 n.1));
       ticks_rise = λ i j x y d e less a b p q. let m = noted_at log i d a in let n = noted_at log j e b in
-          ticks_in_order x y m.0.opening n.0.opening (tick_since w.journal m.0.entry m.0.opening x (entry_since w m.0.opening m.0.entry (f.each i m.0 m.1)) (ap tick_shown m.2 ∙ p)) (tick_since w.journal n.0.entry n.0.opening y (entry_since w n.0.opening n.0.entry (f.each j n.0 n.1)) (ap tick_shown n.2 ∙ q))
+          ticks_in_order x y m.0.opening n.0.opening (tick_since w.journal m.0.entry m.0.opening x
+              (entry_since w m.0.opening m.0.entry (f.each i m.0 m.1)) (ap tick_shown m.2 ∙ p))
+              (tick_since w.journal n.0.entry n.0.opening y (entry_since w n.0.opening n.0.entry (f.each j n.0 n.1)) (ap tick_shown n.2 ∙ q))
           (opened_in_order i j m.0 n.0 less m.1 n.1);
-      counts_rise = λ i j x y d e less a b p q. let m = noted_at log i d a in let n = noted_at log j e b in counts_at log f.counts_rise i j x y m.0 n.0 less m.1 n.1 (ap count_shown m.2 ∙ p) (ap count_shown n.2 ∙ q);
+      counts_rise = λ i j x y d e less a b p q. let m = noted_at log i d a in let n = noted_at log j e b in
+          counts_at log f.counts_rise i j x y m.0 n.0 less m.1 n.1 (ap count_shown m.2 ∙ p) (ap count_shown n.2 ∙ q);
     }
 
     pub log_within : AreWithin w.counter (map entry_of log)
-    log_within k x e at is = let n = noted_at log k e at in entry_within w legal closed some-tick bound reached n.0.opening n.0.entry x (f.each k n.0 n.1) (λ c shown. let m = count_among log k c n.0 n.1 shown in f.counts_below m.0 c m.1) (ap count_reached n.2 ∙ is)
+    log_within k x e at is = let n = noted_at log k e at in entry_within w legal closed some-tick bound reached n.0.opening n.0.entry x
+        (f.each k n.0 n.1) (λ c shown. let m = count_among log k c n.0 n.1 shown in f.counts_below m.0 c m.1) (ap count_reached n.2 ∙ is)
 
 -- what the pen learns of each reader that it took in
 pub kept_legal : (p : PenView) (i : ℕ) (k : Kept) → LegalLogs p → p.winding ≡ false → get_elem? p.kept i ≡ some k → IsKeptLegal p.journal p.top p.out k

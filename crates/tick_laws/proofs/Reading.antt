@@ -43,11 +43,14 @@ sound_by : (fields : List ℕ) (tick : ℕ) (h g : Hands) → unpack fields ≡ 
 sound_by fields tick h g is at g-is = subst IsSound (sym (g-is ∙ is)) (tick-sound at.0 at.1 tick h at.2)
 
 -- a started call that has loaded fields
-pub b_scan_of : (a b : PassView) (ask : Ask) (first : ℕ) (fields : List ℕ) → IsStarted a ask first → GoesOn a b (fields_from (first / 2) 0 fields) → scan_of b ≡ scan_at first (first / 2) false fields []
-b_scan_of a b ask first fields at g = scan_on a b (fields_from (first / 2) 0 fields) g ∙ ((λ i. run (at.ask_is i) (at.scan i) (fields_from (first / 2) 0 fields)) ∙ run_fields ask first (first / 2) [] fields)
+pub b_scan_of : (a b : PassView) (ask : Ask) (first : ℕ) (fields : List ℕ) → IsStarted a ask first → GoesOn a b (fields_from (first / 2) 0 fields)
+    → scan_of b ≡ scan_at first (first / 2) false fields []
+b_scan_of a b ask first fields at g = scan_on a b (fields_from (first / 2) 0 fields) g
+    ∙ ((λ i. run (at.ask_is i) (at.scan i) (fields_from (first / 2) 0 fields)) ∙ run_fields ask first (first / 2) [] fields)
 
 -- a full read
-module _ (a b c : PassView) (ask : Ask) (first : ℕ) (fields : List ℕ) (count : ℕ) (way : way_of ask.kind ≡ full) (at : IsStarted a ask first) (g : GoesOn a b (fields_from (first / 2) 0 fields)) (long : length fields ≡ 15) (counted : c ≡ counter_loaded count b) where
+module _ (a b c : PassView) (ask : Ask) (first : ℕ) (fields : List ℕ) (count : ℕ) (way : way_of ask.kind ≡ full) (at : IsStarted a ask first)
+    (g : GoesOn a b (fields_from (first / 2) 0 fields)) (long : length fields ≡ 15) (counted : c ≡ counter_loaded count b) where
   abbrev tick : ℕ
   tick = first / 2
 
@@ -97,11 +100,15 @@ module _ (a b c : PassView) (ask : Ask) (first : ℕ) (fields : List ℕ) (count
 
     module _ (same : x ≡ first) (h : Hands) (is : h ≡ unpack fields) where
       pub whole_read : (r : Reading) → r ≡ reading_at h tick ask.kind count → Answers a d (Read r)
-      whole_read r r-is = subst (λ (z : Reading). Answers a d (Read z)) (sym (r-is ∙ (ap (λ (y : Hands). reading_at y tick ask.kind count) is ∙ ap (λ n. reading_at (unpack fields) tick ask.kind n) (sym (count_whole ask.kind ask.given count (unpack fields) way))))) (ending true (eq-eqb x first same))
+      whole_read r r-is = subst (λ (z : Reading). Answers a d (Read z))
+          (sym (r-is ∙ (ap (λ (y : Hands). reading_at y tick ask.kind count) is
+          ∙ ap (λ n. reading_at (unpack fields) tick ask.kind n) (sym (count_whole ask.kind ask.given count (unpack fields) way)))))
+          (ending true (eq-eqb x first same))
 
       module _ (learns : LearnsAll c.ask (scan_of c) x) where
         known : (k : Hands) × (fields ≡ pack k) × (unpack fields ≡ k) × IsSoundAt tick k × (k.count ≤ count)
-        known = let l : LearnsAll ask s1 x = subst (λ (z : Ask × Scan). LearnsAll z.0 z.1 x) (λ i. (c_ask i, c_scan i)) learns in l (λ i. needs_even (way i) && (true && eq-eqb (length fields) 15 long i) && true) same
+        known = let l : LearnsAll ask s1 x = subst (λ (z : Ask × Scan). LearnsAll z.0 z.1 x) (λ i. (c_ask i, c_scan i)) learns in
+            l (λ i. needs_even (way i) && (true && eq-eqb (length fields) 15 long i) && true) same
 
         pub whole_sound : IsSound h
         whole_sound = let k = known in sound_by fields tick k.0 h k.2 k.3 is
@@ -113,7 +120,8 @@ module _ (a b c : PassView) (ask : Ask) (first : ℕ) (fields : List ℕ) (count
         whole_past_it = let k = known in subst (λ (y : Hands). y.count ≤ count) (sym (is ∙ k.2)) k.4
 
 -- a fast read, and an interval
-module _ (a b : PassView) (ask : Ask) (first : ℕ) (fields : List ℕ) (x : ℕ) (way : way_of ask.kind ≡ quick) (at : IsStarted a ask first) (g : GoesOn a b (look (first / 2) fields x)) (long : length fields ≡ 15) where
+module _ (a b : PassView) (ask : Ask) (first : ℕ) (fields : List ℕ) (x : ℕ) (way : way_of ask.kind ≡ quick) (at : IsStarted a ask first)
+    (g : GoesOn a b (look (first / 2) fields x)) (long : length fields ≡ 15) where
   abbrev t : ℕ
   t = first / 2
 
@@ -121,7 +129,9 @@ module _ (a b : PassView) (ask : Ask) (first : ℕ) (fields : List ℕ) (x : ℕ
   s2 = scan_at first t false fields []
 
   light_scan : scan_of b ≡ ends (Some (at_mark (x == full_mark t) ask s2 x)) s2
-  light_scan = scan_on a b (look t fields x) g ∙ ((λ i. run (at.ask_is i) (at.scan i) (look t fields x)) ∙ (run-append ask (scan_at first t false [] []) (fields_from t 0 fields) (Mark t x ∷ []) ∙ (ap (λ s. after ask s (Mark t x)) (run_fields ask first t [] fields) ∙ light_ends ask first t fields long way x)))
+  light_scan = scan_on a b (look t fields x) g ∙ ((λ i. run (at.ask_is i) (at.scan i) (look t fields x))
+      ∙ (run-append ask (scan_at first t false [] []) (fields_from t 0 fields) (Mark t x ∷ [])
+      ∙ (ap (λ s. after ask s (Mark t x)) (run_fields ask first t [] fields) ∙ light_ends ask first t fields long way x)))
 
   pub light_fields : (scan_of b).fields ≡ fields
   light_fields = ap (λ (s : Scan). s.fields) light_scan
@@ -133,7 +143,8 @@ module _ (a b : PassView) (ask : Ask) (first : ℕ) (fields : List ℕ) (x : ℕ
   light_again other = light_ending false (ne_eqb x (full_mark t) other)
 
   pub light_read : x ≡ full_mark t → (h : Hands) → h ≡ unpack fields → (r : Reading) → r ≡ reading ask t h 0 → Answers a b (Read r)
-  light_read same h is r r-is = subst (λ (z : Reading). Answers a b (Read z)) (sym (r-is ∙ ap (λ (y : Hands). reading ask t y 0) is)) (light_ending true (eq-eqb x (full_mark t) same))
+  light_read same h is r r-is = subst (λ (z : Reading). Answers a b (Read z)) (sym (r-is ∙ ap (λ (y : Hands). reading ask t y 0) is))
+      (light_ending true (eq-eqb x (full_mark t) same))
 
   pub light_sound : LearnsLook t fields → (h : Hands) → h ≡ unpack fields → IsSound h
   light_sound learns h is = sound_by fields t learns.0 h learns.2 learns.3 is
@@ -142,7 +153,8 @@ module _ (a b : PassView) (ask : Ask) (first : ℕ) (fields : List ℕ) (x : ℕ
   light_stands learns h is = subst (IsSoundAt t) (sym (is ∙ learns.2)) learns.3
 
 -- a beginning and what follows it are one call
-pub rest_calls : (old mid new : PassView) (ask : Ask) (first : ℕ) (e : Entry) → Calls old mid ask (Turn first ∷ []) → (scan_of mid).answer ≡ None → Answers mid new e → Calls old new ask new.loads
+pub rest_calls : (old mid new : PassView) (ask : Ask) (first : ℕ) (e : Entry) → Calls old mid ask (Turn first ∷ []) → (scan_of mid).answer ≡ None
+    → Answers mid new e → Calls old new ask new.loads
 rest_calls old mid new ask first e calls none s =
     let none-yet : decided ask (Turn first ∷ []) ≡ None = (λ i. (run (sym calls.ask_is i) fresh (sym calls.loads i)).answer) ∙ none in
     let all = call_on old mid new ask (Turn first ∷ []) s.loads calls none-yet s.goes in
@@ -151,14 +163,17 @@ rest_calls old mid new ask first e calls none s =
 -- a call that began with the turn word tells its loads
 opened_reads : (a b : PassView) (ask : Ask) (first : ℕ) (e : Entry) → a.ask ≡ ask → a.loads ≡ Turn first ∷ [] → Answers a b e → Reads ask b.loads e
 opened_reads a b ask first e is began s = let loads : b.loads ≡ Turn first ∷ s.loads = s.goes.loads ∙ ap (λ l. l ++ s.loads) began in
-    subst (λ l. Reads ask l e) (sym loads) (explains_loads ask (Turn first ∷ s.loads) e ((λ i. (run (sym (s.goes.ask ∙ is) i) fresh (sym loads i)).answer) ∙ s.answer))
+    subst (λ l. Reads ask l e) (sym loads) (explains_loads ask (Turn first ∷ s.loads) e
+        ((λ i. (run (sym (s.goes.ask ∙ is) i) fresh (sym loads i)).answer) ∙ s.answer))
 
 pub rest_reads : (v new : PassView) (ask : Ask) (first : ℕ) (e : Entry) → IsOpened v ask first → Answers v new e → Reads ask new.loads e
 rest_reads v new ask first e opened s = opened_reads v new ask first e opened.ask_is opened.loads s
 
 -- a full read that found a windup open
-pub once_reads : (v : PassView) (ask : Ask) (first : ℕ) → IsOpened v ask first → way_of ask.kind ≡ full → first % 2 ≢ 0 → Reads ask v.loads (Again ask.kind first first)
-once_reads v ask first opened way odd = subst (λ l. Reads ask l (Again ask.kind first first)) (sym opened.loads) (explains_loads ask (Turn first ∷ []) (Again ask.kind first first) (ap (λ (s : Scan). s.answer) (opens_odd ask first way odd)))
+pub once_reads : (v : PassView) (ask : Ask) (first : ℕ) → IsOpened v ask first → way_of ask.kind ≡ full → first % 2 ≢ 0
+    → Reads ask v.loads (Again ask.kind first first)
+once_reads v ask first opened way odd = subst (λ l. Reads ask l (Again ask.kind first first)) (sym opened.loads)
+    (explains_loads ask (Turn first ∷ []) (Again ask.kind first first) (ap (λ (s : Scan). s.answer) (opens_odd ask first way odd)))
 
 pub call_reads : (v b c : PassView) (ask : Ask) (w : ℕ) (e : Entry) → b ≡ turn_loaded w (call_begun ask v) → Answers b c e → Reads ask c.loads e
 call_reads v b c ask w e is s = opened_reads b c ask w e (ap (λ (z : PassView). z.ask) is) (ap (λ (z : PassView). z.loads) is) s

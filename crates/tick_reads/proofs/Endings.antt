@@ -43,7 +43,8 @@ IsOut y s = (s.begun ≡ true) × (s.answer ≡ None) × IsLost y s
 no_end : (s : Scan) → IsLost full s → (has_fields s && (length s.counters == 1)) ≡ false
 no_end s lost = ⊎_elim (λ (bad : s.good ≡ false). λ i. bad i && (length s.fields == 15) && (length s.counters == 1))
     (λ (z : (15 < length s.fields) ⊎ (1 < length s.counters)). ⊎_elim
-    (λ (long : 15 < length s.fields). (λ i. s.good && ne_eqb (length s.fields) 15 (λ e. omega arith) i && (length s.counters == 1)) ∙ ap (λ b. b && (length s.counters == 1)) (false_and s.good))
+    (λ (long : 15 < length s.fields). (λ i. s.good && ne_eqb (length s.fields) 15 (λ e. omega arith) i && (length s.counters == 1))
+        ∙ ap (λ b. b && (length s.counters == 1)) (false_and s.good))
     (λ (two : 1 < length s.counters). ap (λ b. has_fields s && b) (ne_eqb (length s.counters) 1 (λ e. omega arith)) ∙ false_and (has_fields s)) z) lost
 
 longer : (n x : ℕ) (xs : List ℕ) → n < length xs → n < length (xs ++ x ∷ [])
@@ -57,23 +58,29 @@ module _ (ask : Ask) where
     refl,
     refl,
     ⊎_elim (λ (bad : s.good ≡ false). inl (λ i. bad i && not s.line && (t == s.tick) && (f == length s.fields)))
-        (λ (z : (15 < length s.fields) ⊎ (1 < length s.counters)). ⊎_elim (λ (long : 15 < length s.fields). inr (inl (longer 15 x s.fields long))) (λ (two : 1 < length s.counters). inr (inr two)) z) lost,
+        (λ (z : (15 < length s.fields) ⊎ (1 < length s.counters)). ⊎_elim (λ (long : 15 < length s.fields). inr (inl (longer 15 x s.fields long)))
+            (λ (two : 1 < length s.counters). inr (inr two)) z) lost,
   )
   stays_lost full e s begun lost (Counter x) = (
     refl,
     refl,
     ⊎_elim (λ (bad : s.good ≡ false). inl (λ i. bad i && (length s.fields == 15)))
-        (λ (z : (15 < length s.fields) ⊎ (1 < length s.counters)). ⊎_elim (λ (long : 15 < length s.fields). inr (inl long)) (λ (two : 1 < length s.counters). inr (inr (longer 1 x s.counters two))) z) lost,
+        (λ (z : (15 < length s.fields) ⊎ (1 < length s.counters)). ⊎_elim (λ (long : 15 < length s.fields). inr (inl long))
+            (λ (two : 1 < length s.counters). inr (inr (longer 1 x s.counters two))) z) lost,
   )
   stays_lost full e s begun lost (Mark t x) = (refl, refl, inl refl)
   stays_lost quick e s begun lost (Turn x) = (refl, refl, refl)
   stays_lost quick e s begun lost (Field t f x) = (refl, refl, λ i. lost i && not s.line && (t == s.tick) && (f == length s.fields))
   stays_lost quick e s begun lost (Counter x) = (refl, refl, refl)
-  stays_lost quick e s begun lost (Mark t x) = subst (λ b. IsOut quick (ends (mark_ends b ask s x) s)) (λ i. sym lost i && (length s.fields == 15) && (t == s.tick)) (refl, refl, refl)
-  stays_lost past e s begun lost (Turn x) = subst (λ b. IsOut past (ends (turn_ends b ask s x) s)) (λ i. sym lost i && s.line && (length s.counters == 1)) (refl, refl, refl)
+  stays_lost quick e s begun lost (Mark t x) = subst (λ b. IsOut quick (ends (mark_ends b ask s x) s))
+      (λ i. sym lost i && (length s.fields == 15) && (t == s.tick)) (refl, refl, refl)
+  stays_lost past e s begun lost (Turn x) = subst (λ b. IsOut past (ends (turn_ends b ask s x) s))
+      (λ i. sym lost i && s.line && (length s.counters == 1)) (refl, refl, refl)
   stays_lost past e s begun lost (Field t f x) = (refl, refl, λ i. lost i && not s.line && (t == s.tick) && (f == length s.fields))
-  stays_lost past e s begun lost (Counter x) = subst (λ b. IsOut past (counter_back b ask s x)) (λ i. sym lost i && s.line && (length s.counters == 0)) (refl, refl, refl)
-  stays_lost past e s begun lost (Mark t x) = subst (λ b. IsOut past (walks b ask s x)) (λ i. sym lost i && (length s.fields == 15) && not s.line && (t == s.tick)) (refl, refl, refl)
+  stays_lost past e s begun lost (Counter x) = subst (λ b. IsOut past (counter_back b ask s x))
+      (λ i. sym lost i && s.line && (length s.counters == 0)) (refl, refl, refl)
+  stays_lost past e s begun lost (Mark t x) = subst (λ b. IsOut past (walks b ask s x))
+      (λ i. sym lost i && (length s.fields == 15) && not s.line && (t == s.tick)) (refl, refl, refl)
 
   module _ (y : Way) (way : way_of ask.kind ≡ y) where
     pub no_more : (s : Scan) (ls : List Load) (e : Entry) → IsOut y s → (run ask s ls).answer ≡ Some e → ⊥
@@ -102,16 +109,20 @@ module _ (ask : Ask) where
       unfolding Goes IsOver
       over loads s e begun lost is law = inr (begun, lost, λ d d-is. subst (Law loads) (some_same e d (sym is ∙ d-is)) law)
 
-      module _ (open_yet : (loads : List Load) (s : Scan) → Stage loads s → (s.begun ≡ true) × (s.answer ≡ None)) (next : (loads : List Load) (s : Scan) → Stage loads s → (l : Load) → Goes (loads ++ l ∷ []) (after_by y ask s l)) where
+      module _ (open_yet : (loads : List Load) (s : Scan) → Stage loads s → (s.begun ≡ true) × (s.answer ≡ None))
+          (next : (loads : List Load) (s : Scan) → Stage loads s → (l : Load) → Goes (loads ++ l ∷ []) (after_by y ask s l)) where
         step : (loads : List Load) (s : Scan) → Stage loads s → (l : Load) → Goes (loads ++ l ∷ []) (after ask s l)
         step loads s st l = subst (Goes (loads ++ l ∷ [])) (sym (by_way y ask way s (open_yet loads s st).0 l)) (next loads s st l)
 
         pub goes_to_end : (before : List Load) (s : Scan) (ls : List Load) (e : Entry) → Stage before s → (run ask s ls).answer ≡ Some e → Law (before ++ ls) e
         unfolding Goes IsOver IsOut
         goes_to_end before s [] e st is = none_some e (sym (open_yet before s st).1 ∙ is)
-        goes_to_end before s (l ∷ []) e st is = ⊎_elim (λ (st' : Stage (before ++ l ∷ []) (after ask s l)). none_some e (sym (open_yet _ _ st').1 ∙ is)) (λ (o : IsOver (before ++ l ∷ []) (after ask s l)). o.2 e is) (step before s st l)
-        goes_to_end before s (l ∷ k ∷ ls) e st is = ⊎_elim (λ (st' : Stage (before ++ l ∷ []) (after ask s l)). subst (λ z. Law z e) (append_assoc before (l ∷ []) (k ∷ ls)) (goes_to_end (before ++ l ∷ []) (after ask s l) (k ∷ ls) e st' is))
-            (λ (o : IsOver (before ++ l ∷ []) (after ask s l)). absurd (no_more (after ask (after ask s l) k) ls e (subst (IsOut y) (sym (by_way y ask way (after ask s l) o.0 k)) (stays_lost y way (after ask s l) o.0 o.1 k)) is)) (step before s st l)
+        goes_to_end before s (l ∷ []) e st is = ⊎_elim (λ (st' : Stage (before ++ l ∷ []) (after ask s l)). none_some e
+            (sym (open_yet _ _ st').1 ∙ is)) (λ (o : IsOver (before ++ l ∷ []) (after ask s l)). o.2 e is) (step before s st l)
+        goes_to_end before s (l ∷ k ∷ ls) e st is = ⊎_elim (λ (st' : Stage (before ++ l ∷ []) (after ask s l)). subst (λ z. Law z e)
+            (append_assoc before (l ∷ []) (k ∷ ls)) (goes_to_end (before ++ l ∷ []) (after ask s l) (k ∷ ls) e st' is))
+            (λ (o : IsOver (before ++ l ∷ []) (after ask s l)). absurd (no_more (after ask (after ask s l) k) ls e
+                (subst (IsOut y) (sym (by_way y ask way (after ask s l) o.0 k)) (stays_lost y way (after ask s l) o.0 o.1 k)) is)) (step before s st l)
 
 -- a call that does not begin with the turn word has no answer
 lost_at_once : (y : Way) (s : Scan) → s.good ≡ false → IsLost y s

@@ -43,9 +43,11 @@ Moved loads first last = ((first % 2 ≡ 1) × (last ≡ first) × (loads ≡ Tu
 -- What the loads of a fast read and of a difference come to, which need no counter.
 pub data ReadsLight (ask : Ask) : List Load → Entry → Type 0 where
   -- the slot was taken for a later tick
-  mark_moved : (w : ℕ) (fields : List ℕ) (x : ℕ) → length fields ≡ 15 → x ≢ full_mark (w / 2) → ReadsLight ask (Turn w ∷ look (w / 2) fields x) (Again ask.kind (full_mark (w / 2)) x)
+  mark_moved : (w : ℕ) (fields : List ℕ) (x : ℕ) → length fields ≡ 15 → x ≢ full_mark (w / 2)
+      → ReadsLight ask (Turn w ∷ look (w / 2) fields x) (Again ask.kind (full_mark (w / 2)) x)
   -- the mark stands
-  mark_still : (w : ℕ) (fields : List ℕ) → length fields ≡ 15 → ReadsLight ask (Turn w ∷ look (w / 2) fields (full_mark (w / 2))) (Read (reading ask (w / 2) (unpack fields) 0))
+  mark_still : (w : ℕ) (fields : List ℕ) → length fields ≡ 15
+      → ReadsLight ask (Turn w ∷ look (w / 2) fields (full_mark (w / 2))) (Read (reading ask (w / 2) (unpack fields) 0))
 
 abbrev pub ReadsBy : Way → Ask → List Load → Entry → Type 0
 ReadsBy full ask loads e = ReadsWhole ask.kind loads e

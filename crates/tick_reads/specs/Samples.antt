@@ -17,4 +17,5 @@ looks_on m n = look m (pack (on n)) (full_mark m)
 
 -- looks at the newest tick and eight older ones
 abbrev pub nine_looks : List Load
-nine_looks = looks_on 12 140 ++ looks_on 11 130 ++ looks_on 10 120 ++ looks_on 9 110 ++ looks_on 8 100 ++ looks_on 7 90 ++ looks_on 6 80 ++ looks_on 5 70 ++ looks_on 4 60
+nine_looks = looks_on 12 140 ++ looks_on 11 130 ++ looks_on 10 120 ++ looks_on 9 110 ++ looks_on 8 100 ++ looks_on 7 90 ++ looks_on 6 80
+    ++ looks_on 5 70 ++ looks_on 4 60

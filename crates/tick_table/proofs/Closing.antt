@@ -11,8 +11,11 @@ use Rattle.tick_views.specs.declared.views.View.TheVariants.{Pen}
 use Rattle.tick_views.specs.Views.{on_pen, pen_of, turn_closed}
 use Rattle.tick_table.proofs.PenKeeps.{can_be_read}
 
-pub closed_journal : (m m' : Me (Unit {0}) View) (p : PenView) (n : ℕ) (h : Hands) → m ≡ (Pen p, []) → m' ≡ (on_pen turn_closed m.0, m.1) → IsJournal (pen_of m.0).journal → length p.journal ≡ n + 1 → p.stored ≡ pack h → ((g : Hands) → slice_get p.journal n ≡ Some g → Follows g h) → FitsWords h → (pen_of m'.0).journal ≡ p.journal ++ h ∷ []
+pub closed_journal : (m m' : Me (Unit {0}) View) (p : PenView) (n : ℕ) (h : Hands) → m ≡ (Pen p, []) → m' ≡ (on_pen turn_closed m.0, m.1)
+    → IsJournal (pen_of m.0).journal → length p.journal ≡ n + 1 → p.stored ≡ pack h
+    → ((g : Hands) → slice_get p.journal n ≡ Some g → Follows g h) → FitsWords h → (pen_of m'.0).journal ≡ p.journal ++ h ∷ []
 closed_journal m m' p n h is moved legal long stored next ranges =
     let legal' : IsJournal p.journal = subst (λ (x : Me (Unit {0}) View). IsJournal (pen_of x.0).journal) is legal in
-    let step : (pen_of m'.0).journal ≡ p.journal ++ unpack p.stored ∷ [] = ap (λ (x : Me (Unit {0}) View). (pen_of x.0).journal) moved ∙ ap (λ (x : Me (Unit {0}) View). (pen_of (on_pen turn_closed x.0)).journal) is in
+    let step : (pen_of m'.0).journal ≡ p.journal ++ unpack p.stored ∷ [] = ap (λ (x : Me (Unit {0}) View). (pen_of x.0).journal) moved
+        ∙ ap (λ (x : Me (Unit {0}) View). (pen_of (on_pen turn_closed x.0)).journal) is in
     step ∙ ap (λ g. p.journal ++ g ∷ []) (ap unpack stored ∙ can_be_read p.journal n h long legal' next ranges)

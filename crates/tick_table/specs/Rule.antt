@@ -31,7 +31,8 @@ abbrev pub marks_of : List ℕ → ℕ → ℕ
 marks_of words m = slice_index words (mark_at m)
 
 abbrev pub world_of : List ℕ → PenView → ℕ → World
-world_of words p n = record { journal = p.journal; turn = turn_of p n; marks = marks_of words; counter = slice_index words 1; bound = or_else p.loaded (slice_index words 1); made = p.made }
+world_of words p n = record { journal = p.journal; turn = turn_of p n; marks = marks_of words; counter = slice_index words 1;
+    bound = or_else p.loaded (slice_index words 1); made = p.made }
 
 -- the slot of tick m, which has the hands h: its mark is of a tick k from m on, and where k is m, its fields are those of h. n is the last tick
 pub record SlotIs (words : List ℕ) (n : ℕ) (marked : Bool) (m : ℕ) (h : Hands) : Type 0 where
@@ -92,7 +93,8 @@ number_in Spent = None
 
 -- a pass that is out, or one that was taken in, has this number
 abbrev pub IsHeld : List View → List Kept → ℕ → Type 0
-IsHeld views kept n = ((i : ℕ) × (u : View) × (get_elem? views i ≡ some u) × (number_in u ≡ Some n)) ⊎ ((k : ℕ) × (q : Kept) × (get_elem? kept k ≡ some q) × (q.number ≡ n))
+IsHeld views kept n = ((i : ℕ) × (u : View) × (get_elem? views i ≡ some u) × (number_in u ≡ Some n))
+    ⊎ ((k : ℕ) × (q : Kept) × (get_elem? kept k ≡ some q) × (q.number ≡ n))
 
 -- no two passes that were taken in have one number
 abbrev pub IsOnce : List Kept → Type 0

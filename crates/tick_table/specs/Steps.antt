@@ -57,7 +57,8 @@ LearnsLater s x = x ≢ full_mark s.tick → 2 * s.tick + 21 ≤ x
 
 -- and where the turn word is again what it was. The counter is past that tick
 abbrev pub LearnsAll : Ask → Scan → ℕ → Type 0
-LearnsAll ask s x = (needs_even (way_of ask.kind) && has_fields s && (length s.counters == 1)) ≡ true → x ≡ s.first → (h : Hands) × (s.fields ≡ pack h) × (unpack s.fields ≡ h) × IsSoundAt s.tick h × (h.count ≤ counter_of s)
+LearnsAll ask s x = (needs_even (way_of ask.kind) && has_fields s && (length s.counters == 1)) ≡ true → x ≡ s.first → (h : Hands)
+    × (s.fields ≡ pack h) × (unpack s.fields ≡ h) × IsSoundAt s.tick h × (h.count ≤ counter_of s)
 
 -- the loads of a call
 abbrev pub LoadsMark : Step (Unit {0}) → Mine → ℕ → Mine → Type 0

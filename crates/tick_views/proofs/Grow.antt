@@ -66,12 +66,15 @@ module _ (w w' : World) (g : Goes w w') where
   grow_again : (k : Way) (o a b : ℕ) → FitsAgain w k o a b → FitsAgain w' k o a b
   grow_again full o a b f = grow_crossed o a b f
   grow_again quick o a b f = grow_overtaken (o / 2) a b f
-  grow_again past o a b f = ⊎_elim (λ x. inl (grow_crossed o a b x)) (λ (x : (m : ℕ) × IsReadSince past m o × LostSlot w m a b). inr (x.0, x.1, grow_overtaken x.0 a b x.2)) f
+  grow_again past o a b f = ⊎_elim (λ x. inl (grow_crossed o a b x))
+      (λ (x : (m : ℕ) × IsReadSince past m o × LostSlot w m a b). inr (x.0, x.1, grow_overtaken x.0 a b x.2)) f
 
   pub grow_entry : (o : ℕ) (e : Entry) → FitsEntry w o e → FitsEntry w' o e
-  grow_entry o (Read r) f = record { ask = f.ask; hands = f.hands; counter = f.counter; at = g.on r.tick f.hands f.at; is = f.is; count = grow_count (way_of f.ask.kind) f.ask.given r.tick f.hands f.counter (in_list w.journal r.tick f.hands f.at) f.count; tick = f.tick }
+  grow_entry o (Read r) f = record { ask = f.ask; hands = f.hands; counter = f.counter; at = g.on r.tick f.hands f.at; is = f.is;
+      count = grow_count (way_of f.ask.kind) f.ask.given r.tick f.hands f.counter (in_list w.journal r.tick f.hands f.at) f.count; tick = f.tick }
   grow_entry o (Again k a b) f = grow_again (way_of k) o a b f
-  grow_entry o (TooOld c a) f = record { tick = f.tick; hands = f.hands; at = g.on f.tick f.hands f.at; is = f.is; not_after = f.not_after; later = f.later; some_tick = f.some_tick; reached = let r = f.reached in let l = g.longer in omega arith }
+  grow_entry o (TooOld c a) f = record { tick = f.tick; hands = f.hands; at = g.on f.tick f.hands f.at; is = f.is; not_after = f.not_after;
+      later = f.later; some_tick = f.some_tick; reached = let r = f.reached in let l = g.longer in omega arith }
   grow_entry o (Ahead c a) f = f
 
   pub grow_log : (log : List Noted) → FitsLog w log → FitsLog w' log
@@ -84,7 +87,8 @@ module _ (w w' : World) (g : Goes w w') where
   }
 
   pub grow_one_kept : (k : Kept) → FitsKept w k → FitsKept w' k
-  grow_one_kept k f = record { seen = le_trans f.seen g.longer; counters = below_more w.counter w'.counter k.counters g.counter f.counters; log = grow_log k.entries f.log }
+  grow_one_kept k f = record { seen = le_trans f.seen g.longer; counters = below_more w.counter w'.counter k.counters g.counter f.counters;
+      log = grow_log k.entries f.log }
 
   grow_kind : (k : Way) (ask : Ask) (s : Scan) → s.tick ≤ s.first / 2 → s.first / 2 < length w.journal → FitsKind w k ask s → FitsKind w' k ask s
   grow_kind full ask s near in-J f = f
@@ -95,8 +99,10 @@ module _ (w w' : World) (g : Goes w w') where
     top = λ line. let t = f.top line in (t.0, t.1, λ h at. t.2 h (g.back s.tick h (omega arith) at));
   }
 
-  pub grow_call : (known : ℕ) (log : List Noted) (y : Way) (ask : Ask) (s : Scan) → known ≤ length w.journal → FitsCall w known log y ask s → FitsCall w' known log y ask s
-  grow_call known log y ask s in-journal f = let tick = f.tick in let near = f.near in let in-J : s.first / 2 < length w.journal = omega arith in let in-J' : s.tick < length w.journal = omega arith in record {
+  pub grow_call : (known : ℕ) (log : List Noted) (y : Way) (ask : Ask) (s : Scan) → known ≤ length w.journal → FitsCall w known log y ask s
+      → FitsCall w' known log y ask s
+  grow_call known log y ask s in-journal f = let tick = f.tick in let near = f.near in let in-J : s.first / 2 < length w.journal = omega arith in
+      let in-J' : s.tick < length w.journal = omega arith in record {
     begun = f.begun;
     undecided = f.undecided;
     later = f.later;
@@ -117,7 +123,8 @@ module _ (w w' : World) (g : Goes w w') where
     number = omega arith;
     counters_rise = f.counters_rise;
     counters_below = below_more w.counter w'.counter v.counters g.counter f.counters_below;
-    marks = λ i l at. ⊎_elim (λ (own : l.mark ≡ full_mark l.tick). inl own) (λ (other : LostSlot w l.tick (full_mark l.tick) l.mark). inr (grow_overtaken l.tick (full_mark l.tick) l.mark other)) (f.marks i l at);
+    marks = λ i l at. ⊎_elim (λ (own : l.mark ≡ full_mark l.tick). inl own)
+        (λ (other : LostSlot w l.tick (full_mark l.tick) l.mark). inr (grow_overtaken l.tick (full_mark l.tick) l.mark other)) (f.marks i l at);
     log = grow_log v.entries f.log;
     call = λ calling. grow_call v.seen v.entries _ _ _ f.seen (f.call calling);
   }

@@ -19,7 +19,8 @@ use Rattle.tick_reads.specs.Scans.{Scan, fresh, after, run}
 
 -- a new table
 abbrev pub pen_first : PenView
-pen_first = record { journal = cold ∷ []; winding = false; marked = false; set = false; loaded = None; counters = []; top = 0; met = []; out = false; stored = []; made = 0; kept = [] }
+pen_first = record { journal = cold ∷ []; winding = false; marked = false; set = false; loaded = None; counters = []; top = 0; met = []; out = false;
+    stored = []; made = 0; kept = [] }
 
 -- the steps of a windup, in their order
 abbrev pub turn_started : PenView → PenView
@@ -113,7 +114,8 @@ mark_load tick mark = record { tick = tick; mark = mark }
 
 -- after a further load, by which the call is as far as s
 abbrev pub settled : PassView → ℕ → List ℕ → List ℕ → List MarkLoad → Load → Scan → PassView
-settled v seen turns counters marks l s = record v { seen = seen; turns = turns; counters = counters; marks = marks; calling = undecided s.answer; loads = v.loads ++ l ∷ []; entries = gained v.entries s.answer s.first }
+settled v seen turns counters marks l s = record v { seen = seen; turns = turns; counters = counters; marks = marks; calling = undecided s.answer;
+    loads = v.loads ++ l ∷ []; entries = gained v.entries s.answer s.first }
 
 -- each load of a call
 abbrev pub turn_loaded : ℕ → PassView → PassView
@@ -127,7 +129,8 @@ abbrev pub field_loaded : ℕ → ℕ → PassView → PassView
 field_loaded f x v = let l = Field (scan_of v).tick f x in settled v v.seen v.turns v.counters v.marks l (after v.ask (scan_of v) l)
 
 abbrev pub mark_loaded : ℕ → PassView → PassView
-mark_loaded x v = let l = Mark (scan_of v).tick x in settled v v.seen v.turns v.counters (v.marks ++ mark_load (scan_of v).tick x ∷ []) l (after v.ask (scan_of v) l)
+mark_loaded x v = let l = Mark (scan_of v).tick x in settled v v.seen v.turns v.counters (v.marks ++ mark_load (scan_of v).tick x ∷ []) l
+    (after v.ask (scan_of v) l)
 
 -- the call that stood open is given up
 abbrev pub call_begun : Ask → PassView → PassView

@@ -148,7 +148,8 @@ pub record FitsKept (w : World) (k : Kept) : Type 0 where
 pub record FitsWalk (w : World) (ask : Ask) (s : Scan) : Type 0 where
   pub range : IsReadSince past s.tick s.first
   pub above : s.tick < s.first / 2 → (h : Hands) → get_elem? w.journal (s.tick + 1) ≡ some h → ask.given ≤ h.count
-  pub top : s.line ≡ true → (s.tick ≡ s.first / 2) × (s.first % 2 ≡ 0) × ((h : Hands) → get_elem? w.journal s.tick ≡ some h → (s.fields ≡ pack h) × (h.count < ask.given))
+  pub top : s.line ≡ true → (s.tick ≡ s.first / 2) × (s.first % 2 ≡ 0)
+      × ((h : Hands) → get_elem? w.journal s.tick ≡ some h → (s.fields ≡ pack h) × (h.count < ask.given))
 
 -- the call that stands open, by the way of its kind
 abbrev pub FitsKind : World → Way → Ask → Scan → Type 0
@@ -166,7 +167,8 @@ pub record FitsCall (w : World) (known : ℕ) (log : List Noted) (y : Way) (ask 
   pub reached : s.first ≤ w.turn
   pub kind : s.good ≡ true → FitsKind w y ask s
   pub fields : s.good ≡ true → w.marks s.tick ≡ full_mark s.tick → (h : Hands) → get_elem? w.journal s.tick ≡ some h → StartsWith (pack h) s.fields
-  pub counters : (i c : ℕ) → get_elem? s.counters i ≡ some c → (c ≤ w.counter) × AllBelow c (counts_of log) × ((h : Hands) → get_elem? w.journal (s.first / 2) ≡ some h → h.count ≤ c) × (y ≡ past → ask.given ≤ c)
+  pub counters : (i c : ℕ) → get_elem? s.counters i ≡ some c → (c ≤ w.counter) × AllBelow c (counts_of log)
+      × ((h : Hands) → get_elem? w.journal (s.first / 2) ≡ some h → h.count ≤ c) × (y ≡ past → ask.given ≤ c)
 
 -- a pass knows nothing that was not so
 pub record FitsPass (w : World) (v : PassView) : Type 0 where

@@ -52,11 +52,13 @@ parts-cover : (rate : Rate) (n : ℕ) → 0 < rate.period → rate_error rate * 
 parts-cover rate n some =
     let parts : 1000000000000 * rate_error rate ≤ rate_parts rate * rate.period = (div_ceil_times (1000000000000 * rate_error rate) rate.period some).0 in
     let each : n * (1000000000000 * rate_error rate) ≤ n * (rate_parts rate * rate.period) = mul-le-mul_left n parts in
-    let ceil : n * rate.period * rate_parts rate ≤ div_ceil (n * rate.period * rate_parts rate) 1000000000000 * 1000000000000 = (div_ceil_times (n * rate.period * rate_parts rate) 1000000000000 (omega arith)).0 in
+    let ceil : n * rate.period * rate_parts rate ≤ div_ceil (n * rate.period * rate_parts rate)
+        1000000000000 * 1000000000000 = (div_ceil_times (n * rate.period * rate_parts rate) 1000000000000 (omega arith)).0 in
     omega arith
 
 -- an estimate's time at a later count
-estimate-covers : (freq : ℕ) (w : World) (all : List Stamp) (i count : ℕ) → 1000000 ≤ freq → freq ≤ 16000000000 → IsFit freq w → AreAccepted freq all → All (LiesIn w) all → i < length all
+estimate-covers : (freq : ℕ) (w : World) (all : List Stamp) (i count : ℕ) → 1000000 ≤ freq → freq ≤ 16000000000 → IsFit freq w → AreAccepted freq all
+    → All (LiesIn w) all → i < length all
     → (let e = (full_at freq all i).est in e.status.unsync ≡ false → e.update_ffcount ≤ count → distance w (time_of e count) count ≤ time_bound e count)
 unfolding full_at
 estimate-covers freq w all i count low high fit are lie here sync late =
@@ -74,7 +76,8 @@ estimate-covers freq w all i count low high fit are lie here sync late =
     omega (arith, ints, near.above, near.below, on, within, time)
 
 -- and the length of an interval at its period
-interval-covers : (freq : ℕ) (w : World) (all : List Stamp) (i n : ℕ) → 1000000 ≤ freq → freq ≤ 16000000000 → IsFit freq w → AreAccepted freq all → All (LiesIn w) all
+interval-covers : (freq : ℕ) (w : World) (all : List Stamp) (i n : ℕ) → 1000000 ≤ freq → freq ≤ 16000000000 → IsFit freq w → AreAccepted freq all
+    → All (LiesIn w) all
     → (let e = (full_at freq all i).est in unsigned_abs (pos (n * e.period) -ℤ pos (w.period * n)) ≤ rate_bound e n)
 unfolding full_at
 interval-covers freq w all i n low high fit are lie =
@@ -84,7 +87,8 @@ interval-covers freq w all i n low high fit are lie =
     let error = parts-cover rate n (period-positive freq rate low high is) in
     omega (arith, ints, near.above, near.below)
 
-pub estimates-true : (freq : ℕ) (w : World) (all : List Stamp) → 1000000 ≤ freq → freq ≤ 16000000000 → IsFit freq w → AreAccepted freq all → All (LiesIn w) all → All (IsTrueEstimate w) (fold_of freq all)
+pub estimates-true : (freq : ℕ) (w : World) (all : List Stamp) → 1000000 ≤ freq → freq ≤ 16000000000 → IsFit freq w → AreAccepted freq all
+    → All (LiesIn w) all → All (IsTrueEstimate w) (fold_of freq all)
 estimates-true freq w all low high fit are lie = fold-all (IsTrueEstimate w) freq all (λ i here. record {
   rate = rate-holds freq w all fit are lie i;
   spread = spread-holds freq w all fit are lie i here;
@@ -117,23 +121,29 @@ among-fold freq all e (k, within, at) =
       is = sym at ∙ get_or-map (λ f. f.est) fulls k d e (omega (arith, length-fold_of freq all)) ∙ ap (λ (f : Full). f.est) (get_or-fold_of freq all k d here);
     }
 
-take-tells : (freq : ℕ) (all : List Stamp) (h : Hands) (count : ℕ) (e : Estimate) → IsEstimate freq all (leapless e) → e.update_ffcount ≤ count → e.status.unsync ≡ false
+take-tells : (freq : ℕ) (all : List Stamp) (h : Hands) (count : ℕ) (e : Estimate) → IsEstimate freq all (leapless e) → e.update_ffcount ≤ count
+    → e.status.unsync ≡ false
     → (b : Bool) → Tells freq all (cond b (take_jump h count e) (take_on h count e))
-take-tells freq all h count e of reached sync true = record { index = of.index; here = of.here; is = of.is; sync = sync; update = reached; time = number_of-of_grains (time_of e count) }
-take-tells freq all h count e of reached sync false = record { index = of.index; here = of.here; is = of.is; sync = sync; update = reached; time = number_of-of_grains (time_of e count) }
+take-tells freq all h count e of reached sync true = record { index = of.index; here = of.here; is = of.is; sync = sync; update = reached;
+    time = number_of-of_grains (time_of e count) }
+take-tells freq all h count e of reached sync false = record { index = of.index; here = of.here; is = of.is; sync = sync; update = reached;
+    time = number_of-of_grains (time_of e count) }
 
-take-sync : (h : Hands) (count : ℕ) (e : Estimate) (b : Bool) → (cond b (take_jump h count e) (take_on h count e)).kstatus.unsync ≡ false → e.status.unsync ≡ false
+take-sync : (h : Hands) (count : ℕ) (e : Estimate) (b : Bool) → (cond b (take_jump h count e) (take_on h count e)).kstatus.unsync ≡ false
+    → e.status.unsync ≡ false
 take-sync h count e true sync = sync
 take-sync h count e false sync = sync
 
-wound-tells : (freq : ℕ) (all : List Stamp) (h : Hands) (count : ℕ) (o : Order) → fits h count o ≡ true → GoesBy freq all o → (h.kstatus.unsync ≡ false → Tells freq all h)
+wound-tells : (freq : ℕ) (all : List Stamp) (h : Hands) (count : ℕ) (o : Order) → fits h count o ≡ true → GoesBy freq all o
+    → (h.kstatus.unsync ≡ false → Tells freq all h)
     → (wind_of h count o).kstatus.unsync ≡ false → Tells freq all (wind_of h count o)
 unfolding wind_of
 wound-tells freq all h count order.Plain f by before sync =
     let both = or_parts _ _ sync in
     let tells = before both.0 in
     let on = fits-on h count order.Plain f in
-    let moved : (count - h.est.update_ffcount) * h.est.period ≡ (h.count - h.est.update_ffcount + (count - h.count)) * h.est.period = ap (λ n. n * h.est.period) (omega (arith, on.later, tells.update)) in
+    let moved : (count - h.est.update_ffcount) * h.est.period ≡ (h.count - h.est.update_ffcount + (count - h.count)) * h.est.period = ap
+        (λ n. n * h.est.period) (omega (arith, on.later, tells.update)) in
     record {
       index = tells.index;
       here = tells.here;
@@ -147,7 +157,8 @@ wound-tells freq all h count (order.Take e) f by before sync =
     take-tells freq all h count e (among-fold freq all (leapless e) by) reached (take-sync h count e (jumps h e) sync) (jumps h e)
 wound-tells freq all h count (order.Reset e) f by before sync = absurd (cc)
 
-tick-tells : (freq : ℕ) (all : List Stamp) (ticks : List Hands) → IsJournal ticks → All (λ h. GoesBy freq all (order_of h)) ticks → (n : ℕ) (h : Hands) → slice_get ticks n ≡ Some h → h.kstatus.unsync ≡ false → Tells freq all h
+tick-tells : (freq : ℕ) (all : List Stamp) (ticks : List Hands) → IsJournal ticks → All (λ h. GoesBy freq all (order_of h)) ticks
+    → (n : ℕ) (h : Hands) → slice_get ticks n ≡ Some h → h.kstatus.unsync ≡ false → Tells freq all h
 tick-tells freq all ticks is by zero h here sync =
     let same : cold ≡ h = (let e = sym is.first ∙ here in cc) in
     let clash : true ≡ false = subst (λ (h : Hands). h.kstatus.unsync ≡ false) (sym same) sync in
@@ -159,11 +170,14 @@ tick-tells freq all ticks is by (suc n) h here sync =
     let there : slice_get ticks n ≡ Some before = slice_get-get_or ticks n cold within in
     let next : slice_get ticks (n + 1) ≡ Some h = (let e : n + 1 ≡ suc n = omega arith in ap (slice_get ticks) e ∙ here) in
     let follows = is.next n before h there next in
-    let goes : GoesBy freq all (order_of h) = subst (λ (h : Hands). GoesBy freq all (order_of h)) (get_or_from_slice_get ticks (suc n) h h here) (by (suc n) h place) in
+    let goes : GoesBy freq all (order_of h) = subst (λ (h : Hands). GoesBy freq all (order_of h)) (get_or_from_slice_get ticks (suc n) h h here)
+        (by (suc n) h place) in
     subst (Tells freq all) (sym follows.wound)
-    (wound-tells freq all before h.count (order_of h) follows.fits goes (tick-tells freq all ticks is by n before there) (subst (λ (h : Hands). h.kstatus.unsync ≡ false) follows.wound sync))
+    (wound-tells freq all before h.count (order_of h) follows.fits goes (tick-tells freq all ticks is by n before there)
+        (subst (λ (h : Hands). h.kstatus.unsync ≡ false) follows.wound sync))
 
-pub ticks-true : (freq : ℕ) (w : World) (all : List Stamp) (ticks : List Hands) → 1000000 ≤ freq → freq ≤ 16000000000 → IsFit freq w → AreAccepted freq all → All (LiesIn w) all → IsJournal ticks → All (λ h. GoesBy freq all (order_of h)) ticks → AreTrueTicks w ticks
+pub ticks-true : (freq : ℕ) (w : World) (all : List Stamp) (ticks : List Hands) → 1000000 ≤ freq → freq ≤ 16000000000 → IsFit freq w
+    → AreAccepted freq all → All (LiesIn w) all → IsJournal ticks → All (λ h. GoesBy freq all (order_of h)) ticks → AreTrueTicks w ticks
 unfolding value_of bound_of
 ticks-true freq w all ticks low high fit are lie is by n h here sync = by_kind
   where
@@ -177,13 +191,16 @@ ticks-true freq w all ticks low high fit are lie is by n h here sync = by_kind
 
     by_kind : IsTrueTick w h
     by_kind kind.Abs count late =
-        let moved : (count - h.est.update_ffcount) * h.est.period ≡ (h.count - h.est.update_ffcount + (count - h.count)) * h.est.period = ap (λ n. n * h.est.period) (omega (arith, tells.update)) in
-        let time : number_of (value_of h kind.Abs count) ≡ time_of h.est count = number_of-of_grains (moved_time h count) ∙ omega (arith, ints, tells.time, moved) in
+        let moved : (count - h.est.update_ffcount) * h.est.period ≡ (h.count - h.est.update_ffcount + (count - h.count)) * h.est.period = ap
+            (λ n. n * h.est.period) (omega (arith, tells.update)) in
+        let time : number_of (value_of h kind.Abs count) ≡ time_of h.est count = number_of-of_grains (moved_time h count)
+            ∙ omega (arith, ints, tells.time, moved) in
         rw time (covers count late)
     by_kind kind.Fast count at = subst (λ n. distance w (number_of h.time) n ≤ time_bound h.est n) at (rw tells.time (covers h.count (omega arith)))
     by_kind kind.Diff counts any =
         rw (number_of-of_grains (pos (counts * h.est.period)))
-        (subst (λ (e : Estimate). unsigned_abs (pos (counts * e.period) -ℤ pos (w.period * counts)) ≤ rate_bound e counts) (sym tells.is) (interval-covers freq w all tells.index counts low high fit are lie))
+        (subst (λ (e : Estimate). unsigned_abs (pos (counts * e.period) -ℤ pos (w.period * counts)) ≤ rate_bound e counts) (sym tells.is)
+            (interval-covers freq w all tells.index counts low high fit are lie))
     by_kind kind.Mono count late = tt
     by_kind kind.Uptime count late = tt
     by_kind kind.Back count late = tt

@@ -36,24 +36,29 @@ reply-before freq all k i d are order here = by_order (eq-or-lt_of_le {n = k} {m
     by_order (inr below) = omega (arith, sane.count-is all k d (omega arith), sane.counts-rise freq all k i are below here)
 
 -- what holds of each stamp up to one holds of those of a range up to it
-among : (P : Stamp → Type 0) (all : List Stamp) (from i : ℕ) → ((k : ℕ) (d : Stamp) → k ≤ i → k < length all → P (get_or all k d)) → All P (slice_range all from (i + 1))
+among : (P : Stamp → Type 0) (all : List Stamp) (from i : ℕ) → ((k : ℕ) (d : Stamp) → k ≤ i → k < length all → P (get_or all k d)) → All P
+    (slice_range all from (i + 1))
 among P all from i each k d within =
     let few = length-take (i + 1 - from) (drop from all) in
     let rest = length-drop from all in
-    let place : get_or (slice_range all from (i + 1)) k d ≡ get_or all (from + k) d = get_or-take (i + 1 - from) (drop from all) k d (omega arith) ∙ get_or-drop from all k d in
+    let place : get_or (slice_range all from (i + 1)) k d ≡ get_or all (from + k) d = get_or-take (i + 1 - from) (drop from all) k d (omega arith)
+        ∙ get_or-drop from all k d in
     subst P (sym place) (each (from + k) d (omega arith) (omega arith))
 
 -- whichever is taken, where both are within their spreads
-chosen-holds : (w : World) (now i run : ℕ) (predicted : ℤ × ℕ) (mean : Option (ℤ × ℕ)) → distance w predicted.0 now ≤ predicted.1 → IfSome mean (λ m. distance w m.0 now ≤ m.1) → (let t = chosen i run predicted mean in distance w t.time now ≤ t.spread)
+chosen-holds : (w : World) (now i run : ℕ) (predicted : ℤ × ℕ) (mean : Option (ℤ × ℕ)) → distance w predicted.0 now ≤ predicted.1
+    → IfSome mean (λ m. distance w m.0 now ≤ m.1) → (let t = chosen i run predicted mean in distance w t.time now ≤ t.spread)
 chosen-holds w now i run predicted None is means = is
 chosen-holds w now i run predicted (Some mean) is means = by_test (is_doubted i run predicted.0 mean.0)
   where
-    by_test : (b : Bool) → (let t = cond {A = Taken} b (record { time = predicted.0; spread = predicted.1; predicted = true; run = run + 1 }) (record { time = mean.0; spread = mean.1; predicted = false; run = 0 }) in distance w t.time now ≤ t.spread)
+    by_test : (b : Bool) → (let t = cond {A = Taken} b (record { time = predicted.0; spread = predicted.1; predicted = true; run = run + 1 })
+        (record { time = mean.0; spread = mean.1; predicted = false; run = 0 }) in distance w t.time now ≤ t.spread)
     by_test true = is
     by_test false = means
 
 -- at stamp 0 the mean is taken
-first-holds : (w : World) (now run : ℕ) (predicted : ℤ × ℕ) (mean : Option (ℤ × ℕ)) → IsSome mean → IfSome mean (λ m. distance w m.0 now ≤ m.1) → (let t = chosen 0 run predicted mean in distance w t.time now ≤ t.spread)
+first-holds : (w : World) (now run : ℕ) (predicted : ℤ × ℕ) (mean : Option (ℤ × ℕ)) → IsSome mean → IfSome mean (λ m. distance w m.0 now ≤ m.1)
+    → (let t = chosen 0 run predicted mean in distance w t.time now ≤ t.spread)
 first-holds w now run predicted None some means = absurd (cc)
 first-holds w now run predicted (Some mean) some means = means
 
@@ -92,7 +97,8 @@ module _ (freq : ℕ) (w : World) (all : List Stamp) (fit : IsFit freq w) (are :
       let Within : Term → Type 0 = λ t. twice_distance w t.twice_time now ≤ t.twice_spread in
       mean-holds freq now w (terms_at freq all i) fit
       (All-map Within term (slice_range all from (i + 1)) (among (λ s. Within (term s)) all from i (λ k d early there.
-      term-holds freq base now w rate (get_or all k d) fit (are.timed k d there) (are.sound k d there) (lie k d there) (sane.rate-in_use freq all i are) (in_use-covers i) (reply-before freq all k i d are early here))))
+      term-holds freq base now w rate (get_or all k d) fit (are.timed k d there) (are.sound k d there) (lie k d there)
+          (sane.rate-in_use freq all i are) (in_use-covers i) (reply-before freq all k i d are early here))))
 
   pub taken-holds : (i : ℕ) → i < length all → distance w (taken_at freq all i).time (count_at all i) ≤ (taken_at freq all i).spread
   unfolding taken_before
@@ -102,13 +108,15 @@ module _ (freq : ℕ) (w : World) (all : List Stamp) (fit : IsFit freq w) (are :
       let rate : Rate = global_rate freq all (suc i) in
       let now : ℕ = count_at all (suc i) in
       chosen-holds w now (suc i) t.run (predicted_by rate (now - count_at all i) t) (mean_at freq all (suc i))
-      (prediction-holds freq (count_at all i) now w rate t (sane.rate-over 1024 freq all (suc i) are) (rate-covers 1024 (suc i)) (sane.count-before freq all (suc i) are here) (taken-holds i (omega arith)))
+      (prediction-holds freq (count_at all i) now w rate t (sane.rate-over 1024 freq all (suc i) are) (rate-covers 1024 (suc i))
+          (sane.count-before freq all (suc i) are here) (taken-holds i (omega arith)))
       (mean-at (suc i) here)
 
   pub rate-holds : (i : ℕ) → Covers (full_at freq all i).rate w.period
   unfolding full_at
   rate-holds i = rate-covers 1024 i
 
-  pub spread-holds : (i : ℕ) → i < length all → distance w (number_of (full_at freq all i).est.update_time) (full_at freq all i).est.update_ffcount ≤ (full_at freq all i).spread
+  pub spread-holds : (i : ℕ) → i < length all → distance w (number_of (full_at freq all i).est.update_time) (full_at freq all i).est.update_ffcount ≤
+      (full_at freq all i).spread
   unfolding full_at
   spread-holds i here = rw (number_of-of_grains (taken_at freq all i).time) (taken-holds i here)

@@ -41,7 +41,8 @@ all-back P g xs all k d within = subst P (get_or-map g xs k d (g d) within) (all
 abbrev IsOf : ℕ → List Stamp → Full → Type 0
 IsOf freq all f = Contains (estimates_of (fold_of freq all)) (leapless f.est)
 
-event-goes : (freq : ℕ) (all : List Stamp) (e : Event) (es : List Event) → All (IsOf freq all) (fulls_of (e ∷ es)) → Goes freq all (event_step freq e) × All (IsOf freq all) (fulls_of es)
+event-goes : (freq : ℕ) (all : List Stamp) (e : Event) (es : List Event) → All (IsOf freq all) (fulls_of (e ∷ es))
+    → Goes freq all (event_step freq e) × All (IsOf freq all) (fulls_of es)
 event-goes freq all (event.Estimate f) es each = (All-head (IsOf freq all) f (fulls_of es) each, All-tail (IsOf freq all) f (fulls_of es) each)
 event-goes freq all (event.Set count at) es each = (refl, each)
 
@@ -66,21 +67,28 @@ events-are freq items =
 
 pub plan-goes : (freq ticks : ℕ) (items : List Item) → All (λ s. GoesBy freq (stamps_of items) s.order) (plan_of freq (events_of freq items) ticks)
 unfolding plan_of
-plan-goes freq ticks items = All-cons (Goes freq (stamps_of items)) (start_step freq) (steps_from freq (events_of freq items) ticks) refl (steps-go freq (stamps_of items) ticks (events_of freq items) (events-are freq items))
+plan-goes freq ticks items = All-cons (Goes freq (stamps_of items)) (start_step freq) (steps_from freq (events_of freq items) ticks) refl
+    (steps-go freq (stamps_of items) ticks (events_of freq items) (events-are freq items))
 
 -- so does a journal of it
-journal-goes : (freq between : ℕ) (beside : Bool) (items : List Item) (ticks : List Hands) → IsJournalOf beside (plan_of freq (events_of freq items) between) ticks → All (λ h. GoesBy freq (stamps_of items) (order_of h)) ticks
+journal-goes : (freq between : ℕ) (beside : Bool) (items : List Item) (ticks : List Hands) → IsJournalOf beside
+    (plan_of freq (events_of freq items) between) ticks → All (λ h. GoesBy freq (stamps_of items) (order_of h)) ticks
 journal-goes freq between beside items ticks is k d here =
     let all : List Stamp = stamps_of items in
     let steps : List PlanStep = plan_of freq (events_of freq items) between in
-    let goes : All (GoesBy freq all) (order.Plain ∷ map (λ s. s.order) steps) = All-cons (GoesBy freq all) order.Plain (map (λ s. s.order) steps) tt (All-map (GoesBy freq all) (λ s. s.order) steps (plan-goes freq between items)) in
+    let goes : All (GoesBy freq all) (order.Plain ∷ map (λ s. s.order) steps) = All-cons (GoesBy freq all) order.Plain (map (λ s. s.order) steps) tt
+        (All-map (GoesBy freq all) (λ s. s.order) steps (plan-goes freq between items)) in
     let goes' : All (GoesBy freq all) (map order_of ticks) = subst (All (GoesBy freq all)) (sym (orders-of beside steps ticks is)) goes in
     subst (GoesBy freq all) (get_or-map order_of ticks k d (order_of d) here) (goes' k (order_of d) (omega (arith, length-map ticks order_of)))
 
-pub readings-true : (freq between : ℕ) (beside : Bool) (w : World) (items : List Item) (ticks : List Hands) → 1000000 ≤ freq → freq ≤ 16000000000 → IsFit freq w → AreAcceptedItems freq items → All (LiesIn w) (stamps_of items)
+pub readings-true : (freq between : ℕ) (beside : Bool) (w : World) (items : List Item) (ticks : List Hands) → 1000000 ≤ freq → freq ≤ 16000000000
+    → IsFit freq w → AreAcceptedItems freq items → All (LiesIn w) (stamps_of items)
     → IsJournalOf beside (plan_of freq (events_of freq items) between) ticks → AreTrueTicks w ticks
-readings-true freq between beside w items ticks low high fit are lie is = ticks-true freq w (stamps_of items) ticks low high fit are.stamps lie is.journal (journal-goes freq between beside items ticks is)
+readings-true freq between beside w items ticks low high fit are lie is =
+    ticks-true freq w (stamps_of items) ticks low high fit are.stamps lie is.journal (journal-goes freq between beside items ticks is)
 
-pub plays-true : (freq between : ℕ) (w : World) (items : List Item) → 1000000 ≤ freq → freq ≤ 16000000000 → IsFit freq w → AreAcceptedItems freq items → All (LiesIn w) (stamps_of items) → AreTrueTicks w (journal_of (plan_of freq (events_of freq items) between))
+pub plays-true : (freq between : ℕ) (w : World) (items : List Item) → 1000000 ≤ freq → freq ≤ 16000000000 → IsFit freq w
+    → AreAcceptedItems freq items → All (LiesIn w) (stamps_of items) → AreTrueTicks w (journal_of (plan_of freq (events_of freq items) between))
 plays-true freq between w items low high fit are lie =
-    readings-true freq between false w items _ low high fit are lie (journal-made (plan_of freq (events_of freq items) between) (plan-fits freq (events_of freq items) between low (in-turn freq items low are)))
+    readings-true freq between false w items _ low high fit are lie
+        (journal-made (plan_of freq (events_of freq items) between) (plan-fits freq (events_of freq items) between low (in-turn freq items low are)))

@@ -26,7 +26,8 @@ record AreCounted (period grains counts trips : ℕ) : Type 0 where
   most : grains ≤ (counts + trips) * period
   least : period * (counts - trips) ≤ grains
 
-counted : (K P ta tb te tf ta' tb' te' tf' : ℕ) → IsIn K P ta tb te tf → IsIn K P ta' tb' te' tf' → tf < ta' → te ≤ tb' → AreCounted P ((tb' - tb) + (te' - te)) ((ta' - ta) + (tf' - tf)) ((tf - ta) + (tf' - ta'))
+counted : (K P ta tb te tf ta' tb' te' tf' : ℕ) → IsIn K P ta tb te tf → IsIn K P ta' tb' te' tf' → tf < ta' → te ≤ tb'
+    → AreCounted P ((tb' - tb) + (te' - te)) ((ta' - ta) + (tf' - tf)) ((tf - ta) + (tf' - ta'))
 counted K P ta tb te tf ta' tb' te' tf' j k counters times =
     let long : ℕ = tf' - ta in
     let short : ℕ = ta' - tf in
@@ -51,7 +52,8 @@ clamped freq P grains counts trips low high is =
     (omega arith, omega arith)
 
 -- a stamp that lies in the world
-pub is-in : (freq : ℕ) (w : World) (s : Stamp) → IsFit freq w → LiesIn w s → IsTime s.tb → IsTime s.te → s.ta < s.tf → grains_of s.tb ≤ grains_of s.te → IsIn (unsigned_abs w.start) w.period s.ta (grains_of s.tb) (grains_of s.te) s.tf
+pub is-in : (freq : ℕ) (w : World) (s : Stamp) → IsFit freq w → LiesIn w s → IsTime s.tb → IsTime s.te → s.ta < s.tf
+    → grains_of s.tb ≤ grains_of s.te → IsIn (unsigned_abs w.start) w.period s.ta (grains_of s.tb) (grains_of s.te) s.tf
 is-in freq w s fit lies tb te counters times = record {
   counters = counters;
   times = times;

@@ -34,7 +34,8 @@ drift freq rate P g is covers =
     record { above = omega arith; below = omega arith }
 
 -- twice the time that a stamp says, in natural numbers
-term-near : (K P high spread ta tb te tf now l : ℕ) → IsIn K P ta tb te tf → tf ≤ now → P ≤ high → (let g = (now - ta) + (now - tf) in AreNear (l * g) (P * g) spread
+term-near : (K P high spread ta tb te tf now l : ℕ) → IsIn K P ta tb te tf → tf ≤ now → P ≤ high
+    → (let g = (now - ta) + (now - tf) in AreNear (l * g) (P * g) spread
     → AreNear (tb + te + l * g) (2 * (K + P * now)) ((tf - ta) * high + spread))
 term-near K P high spread ta tb te tf now l is late most near =
     let x : ℕ = now - ta in
@@ -49,16 +50,19 @@ term-near K P high spread ta tb te tf now l is late most near =
       below = omega (arith, near.below, is.request, is.times, is.reply);
     }
 
-pub term-holds : (freq base now : ℕ) (w : World) (rate : Rate) (s : Stamp) → IsFit freq w → IsInRange s → IsPlausible freq s → LiesIn w s → IsRate freq rate → Covers rate w.period → s.tf ≤ now
+pub term-holds : (freq base now : ℕ) (w : World) (rate : Rate) (s : Stamp) → IsFit freq w → IsInRange s → IsPlausible freq s → LiesIn w s
+    → IsRate freq rate → Covers rate w.period → s.tf ≤ now
     → twice_distance w (term_of freq base rate now s).twice_time now ≤ (term_of freq base rate now s).twice_spread
 term-holds freq base now w rate s fit timed sound lies is covers late =
     let order : grains_of s.tb ≤ grains_of s.te = omega (arith, ints, timed.tb.low, timed.te.low, sound.times) in
     let at = is-in freq w s fit lies timed.tb timed.te sound.counters order in
-    let near = term-near (unsigned_abs w.start) w.period rate.high (rate_error rate * counts_since now s) s.ta (grains_of s.tb) (grains_of s.te) s.tf now rate.period at late covers.high (drift freq rate w.period (counts_since now s) is covers) in
+    let near = term-near (unsigned_abs w.start) w.period rate.high (rate_error rate * counts_since now s) s.ta (grains_of s.tb) (grains_of s.te) s.tf
+        now rate.period at late covers.high (drift freq rate w.period (counts_since now s) is covers) in
     omega (arith, ints, fit.start, near.above, near.below)
 
 -- sums of terms that are near to twice a number
-sums-near : (Y : ℕ) (terms : List Term) → All (λ t. AreNear t.twice_time (2 * Y) t.twice_spread) terms → AreNear (times_of terms) (2 * Y * weights_of terms) (spreads_of terms)
+sums-near : (Y : ℕ) (terms : List Term) → All (λ t. AreNear t.twice_time (2 * Y) t.twice_spread) terms
+    → AreNear (times_of terms) (2 * Y * weights_of terms) (spreads_of terms)
 sums-near Y [] each = record { above = omega arith; below = omega arith }
 sums-near Y (t ∷ ts) each =
     let this = each 0 t (omega arith) in
@@ -86,7 +90,8 @@ mean-near Y T S W some near =
       below = le_of_mul-le-mul_left below (omega arith);
     }
 
-pub mean-holds : (freq now : ℕ) (w : World) (terms : List Term) → IsFit freq w → All (λ t. twice_distance w t.twice_time now ≤ t.twice_spread) terms → IfSome (mean_of terms) (λ m. distance w m.0 now ≤ m.1)
+pub mean-holds : (freq now : ℕ) (w : World) (terms : List Term) → IsFit freq w → All (λ t. twice_distance w t.twice_time now ≤ t.twice_spread) terms
+    → IfSome (mean_of terms) (λ m. distance w m.0 now ≤ m.1)
 mean-holds freq now w terms fit each = by_weight (weights_of terms) refl
   where
     by_weight : (n : ℕ) → weights_of terms ≡ n → IfSome (mean_of terms) (λ m. distance w m.0 now ≤ m.1)
@@ -94,11 +99,13 @@ mean-holds freq now w terms fit each = by_weight (weights_of terms) refl
     by_weight (suc n) e =
         let some : 0 < weights_of terms = omega (arith, e) in
         let Y : ℕ = unsigned_abs w.start + w.period * now in
-        let sums = sums-near Y terms (λ k d here. (let this = each k d here in record { above = omega (arith, ints, fit.start, this); below = omega (arith, ints, fit.start, this) })) in
+        let sums = sums-near Y terms (λ k d here. (let this = each k d here in
+            record { above = omega (arith, ints, fit.start, this); below = omega (arith, ints, fit.start, this) })) in
         let near = mean-near Y (times_of terms) (spreads_of terms) (weights_of terms) some sums in
         rw (mean_of_some terms some) (omega (arith, ints, fit.start, near.above, near.below))
 
-pub prediction-holds : (freq before now : ℕ) (w : World) (rate : Rate) (t : Taken) → IsRate freq rate → Covers rate w.period → before ≤ now → distance w t.time before ≤ t.spread
+pub prediction-holds : (freq before now : ℕ) (w : World) (rate : Rate) (t : Taken) → IsRate freq rate → Covers rate w.period → before ≤ now
+    → distance w t.time before ≤ t.spread
     → distance w (predicted_by rate (now - before) t).0 now ≤ (predicted_by rate (now - before) t).1
 prediction-holds freq before now w rate t is covers order within =
     let near = drift freq rate w.period (now - before) is covers in

@@ -34,13 +34,16 @@ PlansGoBy = (freq ticks : ℕ) (items : List Item) → All (λ s. GoesBy freq (s
 
 -- the ticks of a legal journal are true that goes by the estimates of stamps that lie in the world
 abbrev pub BoundsHold : Type 0
-BoundsHold = (freq : ℕ) (w : World) (all : List Stamp) (ticks : List Hands) → 1000000 ≤ freq → freq ≤ 16000000000 → IsFit freq w → AreAccepted freq all → All (LiesIn w) all → IsJournal ticks → All (λ h. GoesBy freq all (order_of h)) ticks → AreTrueTicks w ticks
+BoundsHold = (freq : ℕ) (w : World) (all : List Stamp) (ticks : List Hands) → 1000000 ≤ freq → freq ≤ 16000000000 → IsFit freq w
+    → AreAccepted freq all → All (LiesIn w) all → IsJournal ticks → All (λ h. GoesBy freq all (order_of h)) ticks → AreTrueTicks w ticks
 
 -- so are those of a journal of the plan of their events, also where the counter was raised beside the driver
 abbrev pub ReadingsHold : Type 0
-ReadingsHold = (freq between : ℕ) (beside : Bool) (w : World) (items : List Item) (ticks : List Hands) → 1000000 ≤ freq → freq ≤ 16000000000 → IsFit freq w → AreAcceptedItems freq items → All (LiesIn w) (stamps_of items)
+ReadingsHold = (freq between : ℕ) (beside : Bool) (w : World) (items : List Item) (ticks : List Hands) → 1000000 ≤ freq → freq ≤ 16000000000
+    → IsFit freq w → AreAcceptedItems freq items → All (LiesIn w) (stamps_of items)
     → IsJournalOf beside (plan_of freq (events_of freq items) between) ticks → AreTrueTicks w ticks
 
 -- and those of the journal that the plan makes by itself
 abbrev pub PlaysHold : Type 0
-PlaysHold = (freq between : ℕ) (w : World) (items : List Item) → 1000000 ≤ freq → freq ≤ 16000000000 → IsFit freq w → AreAcceptedItems freq items → All (LiesIn w) (stamps_of items) → AreTrueTicks w (journal_of (plan_of freq (events_of freq items) between))
+PlaysHold = (freq between : ℕ) (w : World) (items : List Item) → 1000000 ≤ freq → freq ≤ 16000000000 → IsFit freq w → AreAcceptedItems freq items
+    → All (LiesIn w) (stamps_of items) → AreTrueTicks w (journal_of (plan_of freq (events_of freq items) between))

@@ -28,16 +28,19 @@ NominalHolds = (freq : ℕ) (w : World) → IsFit freq w → Covers (nominal_rat
 
 -- twice the time that a stamp says for a later count is off by at most twice its spread
 abbrev pub TermsHold : Type 0
-TermsHold = (freq base now : ℕ) (w : World) (rate : Rate) (s : Stamp) → IsFit freq w → IsInRange s → IsPlausible freq s → LiesIn w s → IsRate freq rate → Covers rate w.period → s.tf ≤ now
+TermsHold = (freq base now : ℕ) (w : World) (rate : Rate) (s : Stamp) → IsFit freq w → IsInRange s → IsPlausible freq s → LiesIn w s
+    → IsRate freq rate → Covers rate w.period → s.tf ≤ now
     → twice_distance w (term_of freq base rate now s).twice_time now ≤ (term_of freq base rate now s).twice_spread
 
 -- a mean of such terms is off by at most its spread
 abbrev pub MeansHold : Type 0
-MeansHold = (freq now : ℕ) (w : World) (terms : List Term) → IsFit freq w → All (λ t. twice_distance w t.twice_time now ≤ t.twice_spread) terms → IfSome (mean_of terms) (λ m. distance w m.0 now ≤ m.1)
+MeansHold = (freq now : ℕ) (w : World) (terms : List Term) → IsFit freq w → All (λ t. twice_distance w t.twice_time now ≤ t.twice_spread) terms
+    → IfSome (mean_of terms) (λ m. distance w m.0 now ≤ m.1)
 
 -- a prediction is off by at most its spread where what it is made of was
 abbrev pub PredictionsHold : Type 0
-PredictionsHold = (freq before now : ℕ) (w : World) (rate : Rate) (t : Taken) → IsRate freq rate → Covers rate w.period → before ≤ now → distance w t.time before ≤ t.spread
+PredictionsHold = (freq before now : ℕ) (w : World) (rate : Rate) (t : Taken) → IsRate freq rate → Covers rate w.period → before ≤ now
+    → distance w t.time before ≤ t.spread
     → distance w (predicted_by rate (now - before) t).0 now ≤ (predicted_by rate (now - before) t).1
 
 -- each estimate of accepted stamps that lie in the world is off by at most its spread
@@ -47,4 +50,5 @@ SpreadsHold = (freq : ℕ) (w : World) (all : List Stamp) (i : ℕ) → IsFit fr
 
 -- and is true at later counts too
 abbrev pub EstimatesHold : Type 0
-EstimatesHold = (freq : ℕ) (w : World) (all : List Stamp) → 1000000 ≤ freq → freq ≤ 16000000000 → IsFit freq w → AreAccepted freq all → All (LiesIn w) all → All (IsTrueEstimate w) (fold_of freq all)
+EstimatesHold = (freq : ℕ) (w : World) (all : List Stamp) → 1000000 ≤ freq → freq ≤ 16000000000 → IsFit freq w → AreAccepted freq all
+    → All (LiesIn w) all → All (IsTrueEstimate w) (fold_of freq all)

@@ -16,7 +16,8 @@ use Rattle.world_laws.specs.Spreads.{Covers}
 pub record IsTrueEstimate (w : World) (full : Full) : Type 0 where
   pub rate : Covers full.rate w.period
   pub spread : distance w (number_of full.est.update_time) full.est.update_ffcount ≤ full.spread
-  pub later : full.est.status.unsync ≡ false → (count : ℕ) → full.est.update_ffcount ≤ count → distance w (time_of full.est count) count ≤ time_bound full.est count
+  pub later : full.est.status.unsync ≡ false → (count : ℕ) → full.est.update_ffcount ≤ count
+      → distance w (time_of full.est count) count ≤ time_bound full.est count
 
 -- A reading is off by at most its bound: an absolute and a fast one from the true time at its count, and a difference from
 -- the true length of its interval. Nothing is said of the other clocks

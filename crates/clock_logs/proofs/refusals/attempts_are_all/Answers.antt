@@ -11,5 +11,6 @@ returns-clause-other c is = (let answers = is.each 0 _ refl in grind arith)
 pub returns-clause-six : goal.returns-clause-six
 returns-clause-six c = record {
   many = refl;
-  each = each_at (λ k (e : Entry). AnswersNext 1000 true (take k six) k e) six ((refl, tt), (refl, ((refl, tt), ((refl, tt), ((refl, refl), ((refl, refl), tt))))));
+  each = each_at (λ k (e : Entry). AnswersNext 1000 true (take k six) k e) six
+      ((refl, tt), (refl, ((refl, tt), ((refl, tt), ((refl, refl), ((refl, refl), tt))))));
 }

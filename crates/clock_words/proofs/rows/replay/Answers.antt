@@ -7,4 +7,5 @@ pub parse-requires-clause-valued : goal.parse-requires-clause-valued
 parse-requires-clause-valued c = valued_as _ _ replay_is _ c.in_ok-replay_command.ensures
 
 pub returns-clause-arguments : goal.returns-clause-arguments
-returns-clause-arguments c = parsed_as _ _ replay_is _ c.in_ok-replay_command.ensures (map (λ w. w.now) c.args.words.now) c.parse.result c.parse.ensures.arguments
+returns-clause-arguments c = parsed_as _ _ replay_is _ c.in_ok-replay_command.ensures (map (λ w. w.now) c.args.words.now) c.parse.result
+    c.parse.ensures.arguments

@@ -11,5 +11,6 @@ loop-x-preserved g c =
     let one = at-most-one c.in_ok-accepted.accepted c.refusals-refused.result c.refusals-refused.ensures in
     record {
       few = omega (arith, c.loop-x.invariant.few, one);
-      gathers = gathers-next _ _ _ _ _ _ c.loop-x.x-index _ _ _ c.in_ok-accepted.accepted c.loop-x-test.true all (c.in_ok-accepted.ensures c.args.file.now.head.freq all.accepted all.at) (ap (λ n. c.loop-x.refused + n) c.refusals-refused.ensures);
+      gathers = gathers-next _ _ _ _ _ _ c.loop-x.x-index _ _ _ c.in_ok-accepted.accepted c.loop-x-test.true all
+          (c.in_ok-accepted.ensures c.args.file.now.head.freq all.accepted all.at) (ap (λ n. c.loop-x.refused + n) c.refusals-refused.ensures);
     }

@@ -8,9 +8,11 @@ loop-i-preserved c =
     let inv = c.loop-i.invariant in
     let within : c.loop-i.i < length c.loop-i.logs.items = omega (arith, c.loop-i-test.true, c.len-i-end.ensures, inv.many, c.args.logs.now.ok.0) in
     record {
-      giving = giving-more _ _ _ _ _ c.loop-i.i c.index_mut.result.now c.remove.result within inv.many c.requires inv.giving c.index_mut.ensures.value c.remove.ensures.value c.remove.ensures.items;
+      giving = giving-more _ _ _ _ _ c.loop-i.i c.index_mut.result.now c.remove.result within inv.many c.requires inv.giving
+          c.index_mut.ensures.value c.remove.ensures.value c.remove.ensures.items;
       many = length-set c.loop-i.logs.items c.loop-i.i _ ∙ inv.many;
     }
 
 pub returns : goal.returns
-returns c = giving-done _ _ _ _ c.loop-i.i (omega (arith, c.loop-i.invariant.many, c.requires, c.loop-i-test.false)) c.loop-i.invariant.many c.loop-i.invariant.giving
+returns c = giving-done _ _ _ _ c.loop-i.i (omega (arith, c.loop-i.invariant.many, c.requires, c.loop-i-test.false)) c.loop-i.invariant.many
+    c.loop-i.invariant.giving

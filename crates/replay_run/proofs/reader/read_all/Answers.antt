@@ -6,7 +6,8 @@ pub loop-k-preserved : goal.loop-k-preserved
 loop-k-preserved g c =
     let l = c.loop-k in
     record {
-      reads = reads-more c.args.freq c.args.back l.entries.items _ _ _ l.k l.latest _ c.kind_at.result c.attempt-entry.result c.kind_at.ensures c.push_reserved.ensures.items c.latest_with-latest.ensures l.invariant.reads c.attempt-entry.ensures;
+      reads = reads-more c.args.freq c.args.back l.entries.items _ _ _ l.k l.latest _ c.kind_at.result c.attempt-entry.result c.kind_at.ensures
+          c.push_reserved.ensures.items c.latest_with-latest.ensures l.invariant.reads c.attempt-entry.ensures;
       room = omega (arith, c.push_reserved.ensures.capacity, l.invariant.room);
       table = c.attempt-entry.ensures.table ∙ l.invariant.table;
       number = c.attempt-entry.ensures.calls.number ∙ l.invariant.number;

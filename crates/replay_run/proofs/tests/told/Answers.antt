@@ -19,5 +19,6 @@ returns-in-Ok g c items stands =
     let at = c.time_of-at.result in (
       items ++ item.Set count at ∷ [],
       c.in-Ok.ensures.stands 1000000000 items at stands,
-      λ events are. of-set 1000000000 items count at events (record { count = c.count_of-count.ensures; at = c.time_of-at.ensures }) are (sym (c.in-Ok.ensures.answer 1000000000 items at stands)),
+      λ events are. of-set 1000000000 items count at events (record { count = c.count_of-count.ensures; at = c.time_of-at.ensures }) are
+          (sym (c.in-Ok.ensures.answer 1000000000 items at stands)),
     )

@@ -14,4 +14,5 @@ returns-in-Some-clause-time c =
     let whole = c.in-Some.whole.now in
     let fraction = c.in-Some.fraction.now in
     let time = time_cut text whole fraction c.in-Some.ensures.found c.in-Some.ensures.before c.in-Some.ensures.behind in
-    c.written_of-in-Some.ensures.written ∙ time_told text whole c.number_of-in-Some.result (nanos_in fraction) c.nanos_of.result time c.number_of-in-Some.ensures c.nanos_of.ensures.nanos
+    c.written_of-in-Some.ensures.written ∙ time_told text whole c.number_of-in-Some.result (nanos_in fraction) c.nanos_of.result time
+        c.number_of-in-Some.ensures c.nanos_of.ensures.nanos

@@ -10,7 +10,8 @@ stays_calling : (v w : PassView) (f x : ℕ) → w ≡ field_loaded f x v → w.
 stays_calling v w f x is = ap (λ (z : PassView). z.calling) is
 
 stays_at_tick : (v w : PassView) (f x : ℕ) → w ≡ field_loaded f x v → (scan_of v).tick ≡ (scan_of w).tick
-stays_at_tick v w f x is = sym (ap (λ (z : PassView). (scan_of z).tick) is ∙ ap (λ (s : Scan). s.tick) (run-snoc v.ask fresh v.loads (Field (scan_of v).tick f x)))
+stays_at_tick v w f x is = sym (ap (λ (z : PassView). (scan_of z).tick) is
+    ∙ ap (λ (s : Scan). s.tick) (run-snoc v.ask fresh v.loads (Field (scan_of v).tick f x)))
 
 pub loop-f-preserved : goal.loop-f-preserved
 loop-f-preserved c = let i = c.loop-f.invariant in record {

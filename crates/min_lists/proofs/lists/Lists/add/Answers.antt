@@ -10,7 +10,8 @@ pub invariant_of-self : goal.invariant_of-self
 invariant_of-self c =
     let l = c.self.inside in
     let few : l.count < 2 ^ 62 = omega (arith, c.requires.few, ap (λ k. k.count) c.self.view_is) in
-    lists_add l.nodes c.set_trip.new.self l.count l.windows c.self.invariant (rw (← c.self.view_is) at c.requires.gone) c.set_trip.ensures.links c.set_trip.ensures.others few
+    lists_add l.nodes c.set_trip.new.self l.count l.windows c.self.invariant (rw (← c.self.view_is) at c.requires.gone) c.set_trip.ensures.links
+        c.set_trip.ensures.others few
 
 pub returns-clause-kept : goal.returns-clause-kept
 returns-clause-kept c =
@@ -20,12 +21,14 @@ returns-clause-kept c =
     (trips_with l.nodes new l.count c.args.rtt (c.set_trip.ensures.here ∙ c.new.ensures) c.set_trip.ensures.others))
 
 pub returns-clause-stands : goal.returns-clause-stands
-returns-clause-stands c = λ all stands. subst (λ k. StandsFor k (all ++ c.args.rtt ∷ [])) (sym (returns-clause-kept c)) (stands_with c.args.self.now all c.args.rtt stands)
+returns-clause-stands c = λ all stands. subst (λ k. StandsFor k (all ++ c.args.rtt ∷ [])) (sym (returns-clause-kept c))
+    (stands_with c.args.self.now all c.args.rtt stands)
 
 pub returns-clause-does : goal.returns-clause-does
 returns-clause-does c =
     let l = c.self.inside in
-    rw (← c.self.view_is) (credit_stays l.nodes c.set_trip.new.self l.count l.windows c.self.invariant (rw (← c.self.view_is) at c.requires.gone) c.set_trip.ensures.links c.set_trip.ensures.others (invariant_of-self c))
+    rw (← c.self.view_is) (credit_stays l.nodes c.set_trip.new.self l.count l.windows c.self.invariant (rw (← c.self.view_is) at c.requires.gone)
+        c.set_trip.ensures.links c.set_trip.ensures.others (invariant_of-self c))
 
 pub returns-clause-credit : goal.returns-clause-credit
 returns-clause-credit c = credit_same _ _ (returns-clause-does c)

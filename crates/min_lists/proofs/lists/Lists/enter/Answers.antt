@@ -12,9 +12,11 @@ invariant_of-self g c =
     let l = c.self.inside in
     let p = c.place-place.result in
     let room : c.place-place.result < length l.windows = omega (arith, c.place-place.ensures.within) in
-    let to : (window c.args.self.now c.args.which).to ≡ (window_at l.windows p).to = ap (λ (s : Span). s.to) (window_of l.nodes l.count l.windows c.args.self.now c.args.which p c.self.view_is c.place-place.ensures.value) in
+    let to : (window c.args.self.now c.args.which).to ≡ (window_at l.windows p).to = ap (λ (s : Span). s.to)
+        (window_of l.nodes l.count l.windows c.args.self.now c.args.which p c.self.view_is c.place-place.ensures.value) in
     let count : l.count ≡ c.args.self.now.count = ap (λ k. k.count) c.self.view_is in
-    lists_enter l.windows p c.enter.result room l.nodes c.enter.new.nodes l.count c.self.invariant c.enter.ensures.enters c.args.which c.place-place.ensures.value (omega (arith, c.requires.added)) (omega (arith, c.requires.kept))
+    lists_enter l.windows p c.enter.result room l.nodes c.enter.new.nodes l.count c.self.invariant c.enter.ensures.enters c.args.which
+        c.place-place.ensures.value (omega (arith, c.requires.added)) (omega (arith, c.requires.kept))
 
 pub returns-clause-does : goal.returns-clause-does
 returns-clause-does g c =
@@ -24,8 +26,10 @@ returns-clause-does g c =
     let room : c.place-place.result < length l.windows = omega (arith, c.place-place.ensures.within) in
     rw (← c.self.view_is) (
       c.enter.ensures.forward,
-      credit_enter l.nodes c.enter.new.nodes l.count l.windows p c.enter.result c.args.steps.now c.enter.new.steps room c.self.invariant new c.enter.ensures.cost c.args.which c.place-place.ensures.value,
-      λ other ne. credit_others l.nodes c.enter.new.nodes l.count l.windows p c.enter.result room c.self.invariant new (fun_ext c.enter.ensures.enters.trips) other (λ e. ne (place_same other c.args.which (e ∙ c.place-place.ensures.value))),
+      credit_enter l.nodes c.enter.new.nodes l.count l.windows p c.enter.result c.args.steps.now c.enter.new.steps room c.self.invariant new
+          c.enter.ensures.cost c.args.which c.place-place.ensures.value,
+      λ other ne. credit_others l.nodes c.enter.new.nodes l.count l.windows p c.enter.result room c.self.invariant new
+          (fun_ext c.enter.ensures.enters.trips) other (λ e. ne (place_same other c.args.which (e ∙ c.place-place.ensures.value))),
     )
 
 pub returns-clause-credit : goal.returns-clause-credit

@@ -16,15 +16,18 @@ returns c =
     let first = c.set_before.ensures in
     let second = c.set_after.ensures in
     let apart : (i : ℕ) → from ≤ i → i < to → i % 1024 ≢ to % 1024 = λ i l h. omega (arith, c.requires.near) in
-    let elsewhere : (i : ℕ) → from ≤ i → i < to → i ≢ last → i % 1024 ≢ last % 1024 = λ i l h ne. omega (arith, c.requires.near, c.requires.last, c.requires.before.within) in
+    let elsewhere : (i : ℕ) → from ≤ i → i < to → i ≢ last → i % 1024 ≢ last % 1024 = λ i l h ne. omega
+        (arith, c.requires.near, c.requires.last, c.requires.before.within) in
     let same : trip_at new ≡ trip_at old = fun_ext (λ i. second.trips i ∙ first.trips i) in
-    let linked = linked_behind (trip_at old) (before_at old at) (after_at old at) (before_at new at) (after_at new at) from to c.args.self.head last c.requires.linked c.requires.last c.requires.before
+    let linked = linked_behind (trip_at old) (before_at old at) (after_at old at) (before_at new at) (after_at new at) from to c.args.self.head last
+        c.requires.linked c.requires.last c.requires.before
     (second.befores to ∙ first.here) (λ i l h. second.befores i ∙ first.others i (apart i l h))
     second.here (λ i l h ne. second.others i (elsewhere i l h ne) ∙ first.afters i) in
     record {
       from = c.longer.ensures.from;
       to = c.longer.ensures.to;
-      linked = rw (c.longer.ensures.from, c.longer.ensures.to, c.longer.ensures.head) (subst (λ trip. IsLinked trip (before_at new at) (after_at new at) from (to + 1) c.args.self.head) (sym same) linked);
+      linked = rw (c.longer.ensures.from, c.longer.ensures.to, c.longer.ensures.head)
+          (subst (λ trip. IsLinked trip (before_at new at) (after_at new at) from (to + 1) c.args.self.head) (sym same) linked);
       trips = λ i. second.trips i ∙ first.trips i;
       other_lists = λ q i ne. second.other_lists q i ne ∙ first.other_lists q i ne;
     }

@@ -6,4 +6,5 @@ use Rattle.rtt_window.specs.Windows.{StandsFor}
 use Rattle.radclock_run.proofs.bases.BasesTelling.set.Goals as goal
 
 pub returns : goal.returns
-returns g c head accepted at was answer = subst (StandsFor c.args.self.now.window head.freq) (sym (stamps-push accepted (item.Set c.args._count at) ∙ append-nil (stamps_of accepted))) was
+returns g c head accepted at was answer = subst (StandsFor c.args.self.now.window head.freq)
+    (sym (stamps-push accepted (item.Set c.args._count at) ∙ append-nil (stamps_of accepted))) was

@@ -9,10 +9,12 @@ pub returns-clause-answer : goal.returns-clause-answer
 returns-clause-answer c text short at = subst (AnswersByte text c.args.b) (sym c.step.ensures.answer) (step_answers c.args.self.now text c.args.b short at)
 
 pub returns-clause-after : goal.returns-clause-after
-returns-clause-after c text short at = subst (λ k. StandsFor k (text ++ c.args.b ∷ [])) (sym c.step.ensures.after) (step_stands c.args.self.now text c.args.b short at)
+returns-clause-after c text short at = subst (λ k. StandsFor k (text ++ c.args.b ∷ [])) (sym c.step.ensures.after)
+    (step_stands c.args.self.now text c.args.b short at)
 
 pub returns-clause-refused : goal.returns-clause-refused
-returns-clause-refused c = subst (λ r. IfErr r (λ f. (text : List ℕ) → length text < 2 ^ 62 → StandsFor c.args.self.now text → IsFaultOfAll (text ++ c.args.b ∷ []) f)) (sym c.step.ensures.answer) (refused_all c.args.self.now c.args.b)
+returns-clause-refused c = subst (λ r. IfErr r (λ f. (text : List ℕ) → length text < 2 ^ 62 → StandsFor c.args.self.now text
+    → IsFaultOfAll (text ++ c.args.b ∷ []) f)) (sym c.step.ensures.answer) (refused_all c.args.self.now c.args.b)
 
 pub returns-clause-ranges : goal.returns-clause-ranges
 returns-clause-ranges c = subst GivesInRange (sym c.step.ensures.answer) (step-in-range c.args.self.now c.args.b)

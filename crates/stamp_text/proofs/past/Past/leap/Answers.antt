@@ -10,4 +10,5 @@ returns-in_err-test_leap-clause-test c freq =
     grind (arith, common_steps)
 
 pub returns-in_err-test_leap-clause-answer : goal.returns-in_err-test_leap-clause-answer
-returns-in_err-test_leap-clause-answer c freq all is = returns-in_err-test_leap-clause-test c freq ∙ ap (λ k. test_of freq k (item.Leap c.args.count c.args.leap)) is
+returns-in_err-test_leap-clause-answer c freq all is = returns-in_err-test_leap-clause-test c freq
+    ∙ ap (λ k. test_of freq k (item.Leap c.args.count c.args.leap)) is

@@ -19,7 +19,8 @@ returns-in-Some c =
     (c.in-Some.ensures.table ∙ (c.open_call-first.ensures.table ∙ ap (λ (z : PassSees). z.table) c.self.view_is)) c.in-Some.ensures.some c.in-Some.ensures.by
 
 pub loop-down-init : goal.loop-down-init
-loop-down-init c = record { table = refl; near = let some = c.in_default.ensures.more refl in omega arith; few = omega arith; slot = let some = c.in_default.ensures.more refl in omega arith; down = down_here _ _ _ _ _ (c.in_default.ensures.none refl) }
+loop-down-init c = record { table = refl; near = let some = c.in_default.ensures.more refl in omega arith; few = omega arith;
+    slot = let some = c.in_default.ensures.more refl in omega arith; down = down_here _ _ _ _ _ (c.in_default.ensures.none refl) }
 
 pub loop-down-preserved : goal.loop-down-preserved
 loop-down-preserved c = let i = c.loop-down.invariant in let n = c.in_default-look_older.ensures in let some = n.more refl in let near = n.nearer refl in
@@ -28,7 +29,8 @@ loop-down-preserved c = let i = c.loop-down.invariant in let n = c.in_default-lo
       near = omega arith;
       few = omega arith;
       slot = omega (arith, i.slot);
-      down = subst (λ t. GoesDown c.look_newest.new.self.view c.look_older.new.self.view c.args.count c.open_call-first.result t) next (down_down _ _ _ _ _ _ _ i.down (n.none refl));
+      down = subst (λ t. GoesDown c.look_newest.new.self.view c.look_older.new.self.view c.args.count c.open_call-first.result t) next
+          (down_down _ _ _ _ _ _ _ i.down (n.none refl));
     }
 
 pub returns-in-Some-look_older : goal.returns-in-Some-look_older
@@ -38,5 +40,7 @@ returns-in-Some-look_older c =
     call_adds c.args.self.now c.open_call-first.new.self _ (ask_back c.args.count) w _ is
     (subst (λ (z : PassSees). LearnsTurn z.view w) c.self.view_is c.open_call-first.ensures.learns)
     (ap (λ (v : PassView). (scan_of v).answer) is)
-    (c.in-Some-look_older.ensures.table ∙ (c.loop-down.invariant.table ∙ (c.in_default.ensures.table ∙ (c.open_call-first.ensures.table ∙ ap (λ (z : PassSees). z.table) c.self.view_is))))
-    (down_answers _ _ _ _ _ _ _ (c.in_default.ensures.none refl) (down_answers _ _ _ _ _ _ _ c.loop-down.invariant.down c.in-Some-look_older.ensures.some)) c.in-Some-look_older.ensures.by
+    (c.in-Some-look_older.ensures.table ∙ (c.loop-down.invariant.table
+        ∙ (c.in_default.ensures.table ∙ (c.open_call-first.ensures.table ∙ ap (λ (z : PassSees). z.table) c.self.view_is))))
+    (down_answers _ _ _ _ _ _ _ (c.in_default.ensures.none refl)
+        (down_answers _ _ _ _ _ _ _ c.loop-down.invariant.down c.in-Some-look_older.ensures.some)) c.in-Some-look_older.ensures.by
