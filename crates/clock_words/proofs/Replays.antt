@@ -27,11 +27,11 @@ said words arguments e = by_items (items_in replay_row words) refl
         let same : arguments ≡ with_flags replay_row items = (let q : Some arguments ≡ Some (with_flags replay_row items) = e ∙ rw f refl in cc) in
         let parts = ((written replay_row refl words items).0 f).parts in
         let ticks : value_of ticks_name arguments ≡ value_of ticks_name items = ap (value_of ticks_name) same
-            ∙ option_value ticks_name replay_row.flags items refl in
+        ∙ option_value ticks_name replay_row.flags items refl in
         let readers : value_of readers_name arguments ≡ value_of readers_name items = ap (value_of readers_name) same
-            ∙ option_value readers_name replay_row.flags items refl in
+        ∙ option_value readers_name replay_row.flags items refl in
         let reads : value_of reads_name arguments ≡ value_of reads_name items = ap (value_of reads_name) same
-            ∙ option_value reads_name replay_row.flags items refl in
+        ∙ option_value reads_name replay_row.flags items refl in
         record {
           back = is_given back_name items;
           crank = is_given crank_name items;
@@ -44,15 +44,15 @@ said words arguments e = by_items (items_in replay_row words) refl
 pub replayed : (words : List Text) (arguments : List Item) → Some arguments ≡ option_map (with_flags replay_row) (items_in replay_row words)
     → (n readers reads : ℕ) → Some n ≡ ticks_told arguments → Some readers ≡ readers_told arguments → Some reads ≡ reads_told arguments
     → (back crank : Bool) → ((given : Bool) → value_of back_name arguments ≡ Some (flag_text given)
-        → back ≡ given) → ((given : Bool) → value_of crank_name arguments ≡ Some (flag_text given) → crank ≡ given)
+    → back ≡ given) → ((given : Bool) → value_of crank_name arguments ≡ Some (flag_text given) → crank ≡ given)
     → Some (command.Report (report.Replay n readers reads back crank)) ≡ replay_in words
 replayed words arguments e n readers reads k l m back crank b c =
     let s = said words arguments e in
     ap (λ f. Some (command.Report (report.Replay n readers reads f crank))) (b s.back s.back_is)
     ∙ ap (λ f. Some (command.Report (report.Replay n readers reads s.back f))) (c s.crank s.crank_is)
     ∙ sym (s.is ∙ sym ((ap (λ x. replay_by s.back s.crank x (Some readers) (Some reads)) k
-        ∙ ap (λ x. replay_by s.back s.crank (ticks_told arguments) x (Some reads)) l
-        ∙ ap (replay_by s.back s.crank (ticks_told arguments) (readers_told arguments)) m)))
+    ∙ ap (λ x. replay_by s.back s.crank (ticks_told arguments) x (Some reads)) l
+    ∙ ap (replay_by s.back s.crank (ticks_told arguments) (readers_told arguments)) m)))
 
 -- and where a number is not in its range there is none
 pub not_replayed : (words : List Text) (arguments : List Item) → Some arguments ≡ option_map (with_flags replay_row) (items_in replay_row words)

@@ -62,7 +62,7 @@ answers-at freq back items k e many each next i d (comes here is) =
     let front : items ≡ take i (items ++ e ∷ []) = sym (ap (λ n. take n (items ++ e ∷ [])) here ∙ take-append_seam items (e ∷ [])) in
     let at : k ≡ i = omega arith in
     subst (λ (es : List Entry). AnswersNext freq back es i d) front
-        (subst (λ n. AnswersNext freq back items n d) at (subst (AnswersNext freq back items k) (sym is) next))
+    (subst (λ n. AnswersNext freq back items n d) at (subst (AnswersNext freq back items k) (sym is) next))
 
 abbrev AnswersGiven : ℕ → Bool → ℕ → ℕ → Entry → Type 0
 AnswersGiven freq back k n e = IsAnswerTo (kind_at back k) (given_for freq n (kind_at back k)) e

@@ -31,8 +31,14 @@ abbrev pub marks_of : List ℕ → ℕ → ℕ
 marks_of words m = slice_index words (mark_at m)
 
 abbrev pub world_of : List ℕ → PenView → ℕ → World
-world_of words p n = record { journal = p.journal; turn = turn_of p n; marks = marks_of words; counter = slice_index words 1;
-    bound = or_else p.loaded (slice_index words 1); made = p.made }
+world_of words p n = record {
+  journal = p.journal;
+  turn = turn_of p n;
+  marks = marks_of words;
+  counter = slice_index words 1;
+  bound = or_else p.loaded (slice_index words 1);
+  made = p.made;
+}
 
 -- the slot of tick m, which has the hands h: its mark is of a tick k from m on, and where k is m, its fields are those of h. n is the last tick
 pub record SlotIs (words : List ℕ) (n : ℕ) (marked : Bool) (m : ℕ) (h : Hands) : Type 0 where

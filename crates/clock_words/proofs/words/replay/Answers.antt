@@ -9,5 +9,9 @@ returns-in-Some-Some-Some-clause-value c = replayed (map (λ w. w.now) c.args.wo
 
 pub returns-clause-value : goal.returns-clause-value
 returns-clause-value c = not_replayed (map (λ w. w.now) c.args.words.now) c.in-Some.arguments (search rules)
-    (elim c.in_default-2.branch [ in_default-2-via-in-Some+in-Some+in_default w ↦ (search rules) | in_default-2-via-in-Some+in_default w ↦
-    (search rules) | in_default-2-via-in_default w ↦ (search rules) ])
+    (elim c.in_default-2.branch [
+      | in_default-2-via-in-Some+in-Some+in_default w ↦ (search rules)
+      | in_default-2-via-in-Some+in_default w ↦
+          (search rules)
+      | in_default-2-via-in_default w ↦ (search rules)
+    ])
