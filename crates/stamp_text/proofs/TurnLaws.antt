@@ -10,7 +10,7 @@ use Rattle.stamp_text.specs.declared.lines.LineFault.{LineFault}
 use Rattle.stamp_text.specs.declared.lines.Stamp.{Stamp}
 use Rattle.stamp_text.specs.declared.lines.Why.TheVariants as why
 use Rattle.stamp_text.specs.Cut.{without_return}
-use Rattle.stamp_text.specs.Grammar.{is_second, short_says, fault_so_far, given}
+use Rattle.stamp_text.specs.Grammar.{freq_says, is_second, short_says, version_says, fault_so_far, given}
 use Rattle.stamp_text.specs.Kept.{Kept, IsAt, StandsFor, AnswersByte, AnswersBytes, IsFaultOfAll}
 use Rattle.stamp_text.specs.FeedSteps.{line_number, at_line, sound_answer, unless_faulty, step_answer, second_after, step_kept}
 use Rattle.stamp_text.specs.Pieces.{BeginsWithLine}
@@ -181,16 +181,14 @@ second-stays ended second line late =
     let other : eqb ended 0 ≡ false = grind (arith, nat_tests) in
     ap (λ t. cond t (is_second (without_return line)) second) other
 
--- the answer to a stamp line and its line feed, where no line was open
-pub stamp_turn : (old new : Kept) (more : List ℕ) (n k : ℕ) (s : Stamp) → old.fault ≡ None → old.line ≡ [] → 2 ≤ old.ended → n < length more
-    → get_or more n 0 ≡ 10 → BeginsWithLine old.second more (Ok s) n → k ≡ line_number old.ended → new ≡ record old { ended = k }
-    → AnswersInTurn old (take (n + 1) more) (Ok (Some (gives.Stamp k s))) new
+-- the answer to a line that gives this and its line feed, where no line was open
+said_turn : (old new : Kept) (more : List ℕ) (n k : ℕ) (o : Option Line) → old.fault ≡ None → old.line ≡ [] → 2 ≤ old.ended → n < length more
+    → get_or more n 0 ≡ 10 → n ≤ 255 → All (λ b. b ≢ 10) (take n more) → k ≡ line_number old.ended → short_says old.second k (take n more) ≡ Ok o
+    → new ≡ record old { ended = k } → AnswersInTurn old (take (n + 1) more) (Ok o) new
 unfolding step_answer
-stamp_turn old new more n k s none empty late within feed line is after =
+said_turn old new more n k o none empty late within feed room plain is says after =
     let bytes : List ℕ = take n more in
-    let says : short_says old.second k bytes ≡ Ok (Some (gives.Stamp k s)) = line.says k (omega arith) in
-    let answer : Ok (Some (gives.Stamp k s)) ≡ unless_faulty old.fault
-    (at_line (line_number old.ended) (short_says old.second (line_number old.ended) bytes)) =
+    let answer : Ok o ≡ unless_faulty old.fault (at_line (line_number old.ended) (short_says old.second (line_number old.ended) bytes)) =
     sym (ap (λ f. unless_faulty f (at_line (line_number old.ended) (short_says old.second (line_number old.ended) bytes))) none
     ∙ ap (λ j. at_line j (short_says old.second j bytes)) (sym is) ∙ ap (at_line k) says) in
     let same : second_after old.ended old.second bytes ≡ old.second = second-stays old.ended old.second bytes (omega arith) in
@@ -201,5 +199,26 @@ stamp_turn old new more n k s none empty late within feed line is after =
       line = l;
       fault = old.fault;
     }) empty ∙ ap (λ v. record { ended = line_number old.ended; second = v; line = []; fault = old.fault }) (sym same) in
-    whole_turn old new more n (Ok (Some (gives.Stamp k s))) none empty within feed (omega (arith, ap length empty, line.room))
-    (above_feed bytes line.inner) answer kept
+    whole_turn old new more n (Ok o) none empty within feed (omega (arith, ap length empty)) plain answer kept
+
+-- the answer to a stamp line and its line feed, where no line was open
+pub stamp_turn : (old new : Kept) (more : List ℕ) (n k : ℕ) (s : Stamp) → old.fault ≡ None → old.line ≡ [] → 2 ≤ old.ended → n < length more
+    → get_or more n 0 ≡ 10 → BeginsWithLine old.second more (Ok s) n → k ≡ line_number old.ended → new ≡ record old { ended = k }
+    → AnswersInTurn old (take (n + 1) more) (Ok (Some (gives.Stamp k s))) new
+stamp_turn old new more n k s none empty late within feed line is after = said_turn old new more n k (Some (gives.Stamp k s)) none empty late within
+    feed line.room (above_feed (take n more) line.inner) is (line.says k (omega arith)) after
+
+-- an empty line from 3 on gives nothing
+empty-says : (second : Bool) (k : ℕ) → 2 < k → short_says second k [] ≡ Ok None
+empty-says second k late =
+    let not_first : eqb k 1 ≡ false = grind (arith, nat_tests) in
+    let not_next : eqb k 2 ≡ false = grind (arith, nat_tests) in
+    ap (λ t. cond t (version_says []) (cond (eqb k 2) (freq_says second []) (Ok None))) not_first
+    ∙ ap (λ t. cond t (freq_says second []) (Ok None)) not_next
+
+-- the answer to the line feed of an empty line
+pub empty_turn : (old new : Kept) (more : List ℕ) (k : ℕ) → old.fault ≡ None → old.line ≡ [] → 2 ≤ old.ended → 0 < length more
+    → get_or more 0 0 ≡ 10 → k ≡ line_number old.ended → new ≡ record old { ended = k } → AnswersInTurn old (take 1 more) (Ok None) new
+empty_turn old new more k none empty late some feed is after =
+    said_turn old new more 0 k None none empty late some feed (omega arith) (λ j d l. absurd (omega arith)) is
+    (empty-says old.second k (omega arith)) after
