@@ -9,7 +9,7 @@ use Rattle.std.proofs.lemmas.Slice.Eq.{bytes_eq-Decides}
 use Rattle.stamp_text.specs.Digits.{is_number, number_in}
 use Rattle.clock_words.specs.Rows.{Text, Item, has, is_given, is_value, items_in, items_from}
 use Rattle.clock_words.specs.Parts.{AreOnce, AreParts, AreWritten, dashed, nothing, flag, apart, joined, placed}
-use Rattle.clock_words.specs.Lines.{IsLine, stamps, rtt, estimate, ticks, replay, make, run, ideal_run, bare_row, ticks_row, replay_row, make_row, run_row, back_name, crank_name, ideal_name, number_name, count_name, most_made, most_ran, within, number_within, ticks_told, readers_told, reads_told, ticks_of, replay_by, replay_of, make_of, run_of, ideal_is_early, command_in}
+use Rattle.clock_words.specs.Lines.{IsLine, stamps, rtt, estimate, ticks, replay, make, run, ideal_run, bare_row, ticks_row, replay_row, make_row, run_row, back_name, crank_name, utc_name, ideal_name, number_name, count_name, most_made, most_ran, within, number_within, ticks_told, readers_told, reads_told, ticks_of, replay_by, replay_of, make_of, run_of, ideal_is_early, command_in}
 use Rattle.clock_words.specs.declared.commands.Command.{Command}
 use Rattle.clock_words.specs.declared.commands.Command.TheVariants as command
 use Rattle.clock_words.specs.declared.commands.Report.{Report}
@@ -139,14 +139,14 @@ replay_line words c e = by_items (items_in replay_row words) refl
   where
     by_numbers : (items : List Item) → items_in replay_row words ≡ Some items → (n : Option ℕ) → ticks_told items ≡ n
         → (readers : Option ℕ) → readers_told items ≡ readers
-        → (reads : Option ℕ) → reads_told items ≡ reads → replay_by (is_given back_name items) (is_given crank_name items) n readers reads ≡ Some c
-        → IsLine (codes "replay" ∷ words) c
+        → (reads : Option ℕ) → reads_told items ≡ reads → replay_by (is_given back_name items) (is_given crank_name items) (is_given utc_name items)
+        n readers reads ≡ Some c → IsLine (codes "replay" ∷ words) c
     by_numbers items f None k readers l reads m h = absurd (let q : None ≡ Some c = h in cc)
     by_numbers items f (Some n) k None l reads m h = absurd (let q : None ≡ Some c = h in cc)
     by_numbers items f (Some n) k (Some readers) l None m h = absurd (let q : None ≡ Some c = h in cc)
     by_numbers items f (Some n) k (Some readers) l (Some reads) m h =
         subst (IsLine (codes "replay" ∷ words)) (let q : command.Report
-        (report.Replay n readers reads (is_given back_name items) (is_given crank_name items)) ≡ c = cc in q)
+        (report.Replay n readers reads (is_given back_name items) (is_given crank_name items) (is_given utc_name items)) ≡ c = cc in q)
         (replay words items n readers reads ((written replay_row refl words items).0 f) k l m)
 
     by_items : (x : Option (List Item)) → items_in replay_row words ≡ x → IsLine (codes "replay" ∷ words) c

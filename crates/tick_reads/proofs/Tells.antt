@@ -17,7 +17,7 @@ use Rattle.tick_reads.specs.Ways.{count_by, reading}
 use Rattle.tick_reads.specs.Looks.{full_mark, fields_from, look}
 use Rattle.tick_reads.specs.Scans.{Scan, fresh, scan_at, ends, at_turn, at_mark, turn_ends, mark_ends, opens_at, turn_again, takes_counter, field_on, after, run, decided}
 use Rattle.tick_reads.specs.Converts.{ask_back}
-use Rattle.tick_reads.specs.Reads.{whole_loads, ReadsWhole, turn_open, turn_moved, turn_still, ReadsLight, mark_moved, mark_still, ReadsBy, Reads, StoodStill, Moved}
+use Rattle.tick_reads.specs.Reads.{IsAtCounter, whole_loads, ReadsWhole, turn_open, turn_moved, turn_still, ReadsLight, mark_moved, mark_still, ReadsBy, Reads, StoodStill, Moved}
 use Rattle.tick_reads.proofs.Conversions.{decides, explains}
 use Rattle.tick_reads.proofs.Endings.{after_by, by_way, false_and, none_some, some_same, IsOut, stays_lost, no_more, Goes, further, astray, over, goes_to_end, no_field_first, no_counter_first, no_mark_first}
 use Rattle.tick_reads.proofs.Runs.{run-append, run_fields, whole_counts, whole_ends, light_ends, opens_light, opens_even, opens_odd, fields_from-snoc}
@@ -303,3 +303,16 @@ read_stood k loads r h = still_of k loads (Read r) r h refl
 
 pub again_moved : (k : Kind) (loads : List Load) (first last : ℕ) → ReadsWhole k loads (Again k first last) → Moved loads first last
 again_moved k loads first last h = moved_of k loads (Again k first last) first last h refl
+
+-- the kinds that are read at the counter are read in full
+at_counter : (k : Kind) → IsAtCounter k → way_of k ≡ full
+at_counter kind.Abs at = refl
+at_counter kind.Mono at = refl
+at_counter kind.Uptime at = refl
+at_counter kind.Utc at = refl
+at_counter kind.Fast at = absurd at
+at_counter kind.Diff at = absurd at
+at_counter kind.Back at = absurd at
+
+pub kinds_stood : (ask : Ask) (loads : List Load) (r : Reading) → IsAtCounter ask.kind → Reads ask loads (Read r) → StoodStill ask.kind loads r
+kinds_stood ask loads r at reads = read_stood ask.kind loads r (subst (λ y. ReadsBy y ask loads (Read r)) (at_counter ask.kind at) reads)

@@ -26,7 +26,7 @@ use Rattle.tick_reads.specs.Ways.{needs_even}
 use Rattle.tick_reads.specs.Looks.{full_mark}
 use Rattle.tick_reads.specs.Scans.{Scan, has_fields}
 use Rattle.tick_table.specs.Rule.{turn_of, mark_at, field_at, marks_of, world_of, SlotIs, AreBare, CounterStands, Stands, Tops, number_in, Numbers, Rule}
-use Rattle.tick_views.specs.Worlds.{Goes, AllBelow, World, FitsKept, FitsCall, FitsPass, Fits, top_tick, IsMark, or_else}
+use Rattle.tick_views.specs.Worlds.{Goes, AllAtMost, World, FitsKept, FitsCall, FitsPass, Fits, top_tick, IsMark, or_else}
 use Rattle.tick_views.specs.Views.{new_pass, scan_of, turn_loaded, counter_loaded, call_begun, field_loaded, mark_loaded, on_pen, pass_made, pass_cut, noted_cut, crank_lent, crank_first, crank_raised, crank_cut, kept_of, pass_taken, crank_taken, learned, taken}
 use Rattle.tick_table.specs.Steps.{IsSoundAt, LearnsTurn, LearnsAll, Opens, LoadsTurn, LoadsCounter, LoadsMark, LoadsField, Cranks, LoadsOwnTurn}
 use Rattle.tick_views.proofs.Grow.{at_end, in_list, grow}
@@ -314,7 +314,7 @@ restands words p p' n journal winding marked is-set stored loaded counters kept 
     ticks = λ m h e. subst (λ l. h.count ≤ or_else l (get_or words 1 0)) (sym loaded)
         (f.counter.ticks m h (subst (λ (l : List Hands). get_elem? l m ≡ some h) journal e));
     bound = subst (λ l. or_else l (get_or words 1 0) ≤ get_or words 1 0) (sym loaded) f.counter.bound;
-    counted = subst (AllBelow (get_or words 1 0)) (sym counters) f.counter.counted;
+    counted = subst (AllAtMost (get_or words 1 0)) (sym counters) f.counter.counted;
     closed = λ e. loaded ∙ f.counter.closed (sym winding ∙ e);
   };
   legal = subst IsJournal (sym journal) f.legal;
@@ -538,7 +538,7 @@ looks slots p s r _ at _ = let same : r.pen ≡ p = pen_same r.pen p (sym r.seat
           journal = stands.legal;
           once = numbers.once;
           given = numbers.small_kept;
-          words = s.words;
+          stood = s.words;
           small = stands.counter.small;
           home = λ e. tops.home e;
           closed = stands.counter.closed;

@@ -29,7 +29,7 @@ use Rattle.std.proofs.lemmas.Option.{slice_get-get_or}
 use Rattle.tick_table.proofs.Numbering.{numbers_set}
 use Rattle.tick_reads.specs.Looks.{full_mark}
 use Rattle.tick_table.specs.Rule.{turn_of, mark_at, field_at, marks_of, world_of, SlotIs, AreBare, SlotsStand, CounterStands, Stands, Tops, number_in, Numbers, Rule}
-use Rattle.tick_views.specs.Worlds.{Goes, World, AllBelow, FitsKept, Fits, IsMark, or_else}
+use Rattle.tick_views.specs.Worlds.{Goes, World, AllAtMost, FitsKept, Fits, IsMark, or_else}
 use Rattle.tick_views.specs.Views.{pen_first, turn_started, mark_started, field_stored, mark_set, turn_closed, loaded_if, pen_counted, top_raised}
 use Rattle.tick_table.specs.Steps.{Starts, StartsMark, Stores, SetsMark, Closes, LearnsCounter, LoadsOwnCounter, Raises}
 use Rattle.tick_views.proofs.Grow.{at_end, at_shorter, in_list, grow, grow_one_kept}
@@ -303,7 +303,7 @@ slot_step s r p p' n i x at long far journal winding loaded made kept out top co
           small = f.counter.small;
           ticks = λ m h e. subst (λ l. h.count ≤ or_else l c) (sym loaded) (f.counter.ticks m h (subst (λ (l : List Hands). get_elem? l m ≡ some h) journal e));
           bound = subst (λ l. or_else l c ≤ c) (sym loaded) f.counter.bound;
-          counted = subst (AllBelow c) (sym counters) f.counter.counted;
+          counted = subst (AllAtMost c) (sym counters) f.counter.counted;
           closed = λ e. loaded ∙ f.counter.closed (sym winding ∙ e);
         };
         legal = subst IsJournal (sym journal) f.legal;

@@ -12,7 +12,7 @@ use Rattle.tick_views.specs.declared.views.CrankView.{CrankView}
 use Rattle.tick_views.specs.declared.views.PenView.{PenView}
 use Rattle.tick_views.specs.declared.views.View.{View}
 use Rattle.tick_views.specs.declared.views.View.TheVariants.{Pen, Pass, Crank, Note, Spent}
-use Rattle.tick_views.specs.Worlds.{World, AllBelow, FitsKept, Fits, IsMark, or_else}
+use Rattle.tick_views.specs.Worlds.{World, AllAtMost, FitsKept, Fits, IsMark, or_else}
 
 abbrev pub turn_of : PenView → ℕ → ℕ
 turn_of p n = 2 * n + cond p.winding 1 0
@@ -69,7 +69,7 @@ pub record CounterStands (c : ℕ) (p : PenView) : Type 0 where
   pub small : c < 2 ^ 62
   pub ticks : (m : ℕ) (h : Hands) → get_elem? p.journal m ≡ some h → h.count ≤ or_else p.loaded c
   pub bound : or_else p.loaded c ≤ c
-  pub counted : AllBelow c p.counters
+  pub counted : AllAtMost c p.counters
   pub closed : p.winding ≡ false → p.loaded ≡ None
 
 pub record Stands (words : List ℕ) (p : PenView) (n : ℕ) : Type 0 where

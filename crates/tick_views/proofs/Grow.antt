@@ -17,7 +17,7 @@ use Rattle.clock_logs.specs.Legal.{Way, full, quick, past, way_of}
 use Rattle.tick_reads.specs.Looks.{full_mark}
 use Rattle.tick_reads.specs.Scans.{Scan}
 use Rattle.clock_logs.specs.Logs.{IsReadSince}
-use Rattle.tick_views.specs.Worlds.{Goes, AllBelow, opening_of, FitsEntry, FitsLog, FitsKept, FitsCall, FitsPass, Fits, top_tick, World, IsTimely, FitsCount, FitsAgain, FitsKind, MetWindup, LostSlot, counts_of}
+use Rattle.tick_views.specs.Worlds.{Goes, AllAtMost, opening_of, FitsEntry, FitsLog, FitsKept, FitsCall, FitsPass, Fits, top_tick, World, IsTimely, FitsCount, FitsAgain, FitsKind, MetWindup, LostSlot, counts_of}
 
 module _ {A : Type 0} where
   pub at_shorter : (l m : List A) (i : ℕ) (a : A) → i < length l → get_elem? (l ++ m) i ≡ some a → get_elem? l i ≡ some a
@@ -31,7 +31,7 @@ at_end [] a b (suc j) e = absurd (some-ne-none b (sym e))
 at_end (x ∷ xs) a b zero e = inl e
 at_end (x ∷ xs) a b (suc j) e = ⊎_elim (λ h. inl h) (λ (h : (j ≡ length xs) × (a ≡ b)). let same = h.0 in inr (omega arith, h.1)) (at_end xs a b j e)
 
-pub below_more : (t t' : ℕ) (xs : List ℕ) → t ≤ t' → AllBelow t xs → AllBelow t' xs
+pub below_more : (t t' : ℕ) (xs : List ℕ) → t ≤ t' → AllAtMost t xs → AllAtMost t' xs
 below_more t t' xs up all i x at = le_trans (all i x at) up
 
 half-up : (a b : ℕ) → a ≤ b → top_tick a ≤ top_tick b

@@ -28,17 +28,17 @@ use Rattle.tick_reads.specs.Ways.{needs_even, count_by}
 use Rattle.tick_reads.specs.Looks.{full_mark}
 use Rattle.tick_reads.specs.Scans.{Scan, fresh, is_even, counter_of, read_by, has_fields, ends, at_turn, at_mark, turn_ends, mark_ends, opens_at, opened, turn_again, turned, goes_down, finds_top, finds_line, looks_at, finds_mark, walks, mark_by, counts_back, counter_back, takes_counter, after, run}
 use Rattle.clock_logs.specs.Logs.{IsReadSince}
-use Rattle.tick_views.specs.Worlds.{World, IsMark, IsTimely, FitsCount, MetWindup, LostSlot, FitsAgain, FitsWalk, FitsKind, FitsMark, top_tick, AllBelow, NeverFall, opening_of, StartsWith, FitsEntry, FitsLog, FitsCall, FitsPass, count_if, counts_in, counts_of}
+use Rattle.tick_views.specs.Worlds.{World, IsMark, IsTimely, FitsCount, MetWindup, LostSlot, FitsAgain, FitsWalk, FitsKind, FitsMark, top_tick, AllAtMost, NeverFall, opening_of, StartsWith, FitsEntry, FitsLog, FitsCall, FitsPass, count_if, counts_in, counts_of}
 use Rattle.tick_views.specs.Views.{settled, turn_loaded, counter_loaded, field_loaded, mark_loaded, call_begun, scan_of, undecided, gained, noted, mark_load}
 
-rises-snoc : (xs : List ℕ) (w : ℕ) → NeverFall xs → AllBelow w xs → NeverFall (xs ++ w ∷ [])
+rises-snoc : (xs : List ℕ) (w : ℕ) → NeverFall xs → AllAtMost w xs → NeverFall (xs ++ w ∷ [])
 rises-snoc [] w r b = ((λ i x e. absurd (some-ne-none x (sym e))), tt)
 rises-snoc (x ∷ xs) w r b = (
   (λ i y e. ⊎_elim (λ (at : get_elem? xs i ≡ some y). r.0 i y at) (λ (same : w ≡ y). subst (λ k. x ≤ k) same (b 0 x refl)) (at_snoc xs w y i e)),
   rises-snoc xs w r.1 (λ i y e. b (suc i) y e),
 )
 
-below-snoc : (t : ℕ) (xs : List ℕ) (w : ℕ) → AllBelow t xs → w ≤ t → AllBelow t (xs ++ w ∷ [])
+below-snoc : (t : ℕ) (xs : List ℕ) (w : ℕ) → AllAtMost t xs → w ≤ t → AllAtMost t (xs ++ w ∷ [])
 below-snoc t xs w b up i y e = ⊎_elim (λ (at : get_elem? xs i ≡ some y). b i y at) (λ (same : w ≡ y). subst (λ k. k ≤ t) same up) (at_snoc xs w y i e)
 
 both_true : (a b : Bool) → (a && b) ≡ true → (a ≡ true) × (b ≡ true)
@@ -87,7 +87,7 @@ module _ (w : World) (back : (m : ℕ) (h : Hands) → get_elem? w.journal m ≡
   -- what the counts of a new entry owe
   NewCounts : List ℕ → List ℕ → Type 0
   NewCounts xs [] = Unit {0}
-  NewCounts xs (c ∷ []) = AllBelow c xs × (c ≤ w.counter)
+  NewCounts xs (c ∷ []) = AllAtMost c xs × (c ≤ w.counter)
   NewCounts xs (c ∷ d ∷ ds) = ⊥
 
   add_rises : (xs ys : List ℕ) → NeverFall xs → NewCounts xs ys → NeverFall (xs ++ ys)
@@ -96,13 +96,13 @@ module _ (w : World) (back : (m : ℕ) (h : Hands) → get_elem? w.journal m ≡
   add_rises xs (c ∷ []) r n = rises-snoc xs c r n.0
   add_rises xs (c ∷ d ∷ ds) r n = absurd n
 
-  add_below : (xs ys : List ℕ) → AllBelow w.counter xs → NewCounts xs ys → AllBelow w.counter (xs ++ ys)
+  add_below : (xs ys : List ℕ) → AllAtMost w.counter xs → NewCounts xs ys → AllAtMost w.counter (xs ++ ys)
   unfolding NewCounts
-  add_below xs [] r n = subst (AllBelow w.counter) (sym (append_none xs)) r
+  add_below xs [] r n = subst (AllAtMost w.counter) (sym (append_none xs)) r
   add_below xs (c ∷ []) r n = below-snoc w.counter xs c r n.1
   add_below xs (c ∷ d ∷ ds) r n = absurd n
 
-  new_read : (k : Kind) (given c : ℕ) (h : Hands) (xs : List ℕ) → (needs_even (way_of k) ≡ true → AllBelow c xs × (c ≤ w.counter))
+  new_read : (k : Kind) (given c : ℕ) (h : Hands) (xs : List ℕ) → (needs_even (way_of k) ≡ true → AllAtMost c xs × (c ≤ w.counter))
       → NewCounts xs (count_if (needs_even (way_of k)) (count_by k given h c))
   unfolding NewCounts
   new_read kind.Abs given c h xs f = f refl
@@ -113,7 +113,7 @@ module _ (w : World) (back : (m : ℕ) (h : Hands) → get_elem? w.journal m ≡
   new_read kind.Back given c h xs f = tt
   new_read kind.Utc given c h xs f = f refl
 
-  one_new : (xs : List ℕ) (c : ℕ) → AllBelow c xs → c ≤ w.counter → NewCounts xs (c ∷ [])
+  one_new : (xs : List ℕ) (c : ℕ) → AllAtMost c xs → c ≤ w.counter → NewCounts xs (c ∷ [])
   unfolding NewCounts
   one_new xs c a b = (a, b)
 
@@ -124,7 +124,7 @@ module _ (w : World) (back : (m : ℕ) (h : Hands) → get_elem? w.journal m ≡
   -- what a new entry owes
   record IsNext (log : List Noted) (o : ℕ) (e : Entry) : Type 0 where
     fits : FitsEntry w o e
-    later : AllBelow o (map opening_of log)
+    later : AllAtMost o (map opening_of log)
     reached : o ≤ w.turn
     counts : NewCounts (counts_of log) (counts_in e)
 
@@ -133,9 +133,9 @@ module _ (w : World) (back : (m : ℕ) (h : Hands) → get_elem? w.journal m ≡
     each = λ i x at. ⊎_elim (λ (was : get_elem? log i ≡ some x). f.each i x was)
         (λ (same : noted e o ≡ x). subst (λ (y : Noted). FitsEntry w y.opening y.entry) same n.fits) (at_snoc log (noted e o) x i at);
     rises = subst NeverFall (sym openings) (rises-snoc (map opening_of log) o f.rises n.later);
-    below = subst (AllBelow w.turn) (sym openings) (below-snoc w.turn (map opening_of log) o f.below n.reached);
+    below = subst (AllAtMost w.turn) (sym openings) (below-snoc w.turn (map opening_of log) o f.below n.reached);
     counts_rise = subst NeverFall (sym counts) (add_rises (counts_of log) (counts_in e) f.counts_rise n.counts);
-    counts_below = subst (AllBelow w.counter) (sym counts) (add_below (counts_of log) (counts_in e) f.counts_below n.counts);
+    counts_below = subst (AllAtMost w.counter) (sym counts) (add_below (counts_of log) (counts_in e) f.counts_below n.counts);
   }
 
   log_after : (log : List Noted) (a : Option Entry) (o : ℕ) → FitsLog w log → ((e : Entry) → a ≡ Some e → IsNext log o e) → FitsLog w (gained log a o)
@@ -203,10 +203,10 @@ module _ (w : World) (back : (m : ℕ) (h : Hands) → get_elem? w.journal m ≡
     log : FitsLog w v.entries
     in_journal : seen ≤ length w.journal
     rises : NeverFall turns
-    below : AllBelow w.turn turns
+    below : AllAtMost w.turn turns
     known : (i t : ℕ) → get_elem? turns i ≡ some t → t / 2 < seen
     counters_rise : NeverFall counters
-    counters_below : AllBelow w.counter counters
+    counters_below : AllAtMost w.counter counters
     marked : (i : ℕ) (k : MarkLoad) → get_elem? marks i ≡ some k → FitsMark w k
     is : run v.ask fresh (v.loads ++ l ∷ []) ≡ s
     outcome : Outcome seen v.entries (way_of v.ask.kind) v.ask s
@@ -264,7 +264,7 @@ module _ (w : World) (back : (m : ℕ) (h : Hands) → get_elem? w.journal m ≡
     }
 
     first_counter : (seen : ℕ) (log : List Noted) (y : Way) (ask : Ask) (s : Scan) → FitsCall w seen log y ask s → (length s.counters == 1) ≡ true
-        → (counter_of s ≤ w.counter) × AllBelow (counter_of s) (counts_of log)
+        → (counter_of s ≤ w.counter) × AllAtMost (counter_of s) (counts_of log)
         × ((h : Hands) → get_elem? w.journal (s.first / 2) ≡ some h → h.count ≤ counter_of s) × (y ≡ past → ask.given ≤ counter_of s)
     first_counter seen log y ask s f one = f.counters 0 (counter_of s) (one_number s.counters (eqb-true (length s.counters) 1 one))
 
@@ -272,7 +272,7 @@ module _ (w : World) (back : (m : ℕ) (h : Hands) → get_elem? w.journal m ≡
     pub full_read : (ask : Ask) (seen : ℕ) (log : List Noted) (s : Scan) → seen ≤ length w.journal → FitsCall w seen log full ask s
         → (has_fields s && (length s.counters == 1)) ≡ true → w.turn ≡ s.first
         → (h : Hands) × (s.fields ≡ pack h) × (get_elem? w.journal s.tick ≡ some h) × (h.count ≤ counter_of s) × IsTimely w s.tick (counter_of s)
-        × AllBelow (counter_of s) (counts_of log) × (counter_of s ≤ w.counter)
+        × AllAtMost (counter_of s) (counts_of log) × (counter_of s ≤ w.counter)
     full_read ask seen log s in-J f all same = let b = both_true (has_fields s) (length s.counters == 1) all in
         let good = both_true s.good (length s.fields == 15) b.0 in let k = f.kind good.0 in
         let a = at_last s same k.1 in let h = whole_hands seen log full ask s in-J f b.0 (subst (λ t. w.marks t ≡ full_mark t) (sym k.0) a.mark) in
@@ -372,9 +372,9 @@ module _ (w : World) (back : (m : ℕ) (h : Hands) → get_elem? w.journal m ≡
     -- the counter
     counted : (seen : ℕ) (log : List Noted) (y : Way) (ask : Ask) (s : Scan) → FitsLog w log → FitsCall w seen log y ask s
         → (y ≡ past → ask.given ≤ w.counter) → (i c : ℕ) → get_elem? (s.counters ++ w.counter ∷ []) i ≡ some c
-        → (c ≤ w.counter) × AllBelow c (counts_of log) × ((h : Hands) → get_elem? w.journal (s.first / 2) ≡ some h → h.count ≤ c) × (y ≡ past → ask.given ≤ c)
+        → (c ≤ w.counter) × AllAtMost c (counts_of log) × ((h : Hands) → get_elem? w.journal (s.first / 2) ≡ some h → h.count ≤ c) × (y ≡ past → ask.given ≤ c)
     counted seen log y ask s l f beyond i c at = ⊎_elim (λ (was : get_elem? s.counters i ≡ some c). f.counters i c was)
-        (λ (new : w.counter ≡ c). subst (λ x. (x ≤ w.counter) × AllBelow x (counts_of log)
+        (λ (new : w.counter ≡ c). subst (λ x. (x ≤ w.counter) × AllAtMost x (counts_of log)
         × ((h : Hands) → get_elem? w.journal (s.first / 2) ≡ some h → h.count ≤ x) × (y ≡ past → ask.given ≤ x)) new
         (le_refl w.counter, l.counts_below, sane.reached (s.first / 2), beyond)) (at_snoc s.counters w.counter c i at)
 
@@ -594,7 +594,8 @@ module _ (w : World) (back : (m : ℕ) (h : Hands) → get_elem? w.journal m ≡
                 };
                 later = f.later;
                 reached = f.reached;
-                counts = new_read ask.kind ask.given (counter_of s) (unpack s.fields) (counts_of log) (λ needs. absurd (true≢false (sym needs ∙ ap needs_even e)));
+                counts = new_read ask.kind ask.given (counter_of s) (unpack s.fields) (counts_of log)
+                    (λ needs. absurd (true≢false (sym needs ∙ ap needs_even e)));
               }
           entry false same = let tick = f.tick in let near = f.near in let whole = (both_true (has_fields s) _ is).0 in record {
             fits = subst (λ z. FitsAgain w z s.first (full_mark s.tick) (w.marks s.tick)) (sym e)
