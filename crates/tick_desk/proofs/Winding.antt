@@ -21,7 +21,7 @@ use Rattle.clock_core.specs.Machines.{refusal, answer_by}
 use Rattle.clock_logs.specs.declared.noted.Kept.{Kept}
 use Rattle.tick_views.specs.declared.views.PenView.{PenView}
 use Rattle.tick_views.specs.Views.{turn_started, pen_counted}
-use Rattle.tick_views.specs.Worlds.{AllBelow}
+use Rattle.tick_views.specs.Worlds.{AllAtMost}
 use Rattle.tick_table.specs.Steps.{LearnsCounter}
 use Rattle.tick_table.proofs.Lists.{to_some}
 use Rattle.tick_desk.specs.Shows.{PenShows, PenHolds}
@@ -59,7 +59,7 @@ counted-same false c p = record {
 }
 
 -- no value is above the front of a list where none is above the whole
-front-below : (c : ℕ) (xs ys : List ℕ) → AllBelow c (xs ++ ys) → AllBelow c xs
+front-below : (c : ℕ) (xs ys : List ℕ) → AllAtMost c (xs ++ ys) → AllAtMost c xs
 front-below c xs ys all i x e = all i x (at-front xs i e)
   where
     at-front : (xs : List ℕ) (i : ℕ) → get_elem? xs i ≡ some x → get_elem? (xs ++ ys) i ≡ some x
@@ -125,7 +125,7 @@ module _ (p0 p1 : PenView) (ticks : List Hands) (top : ℕ) (out : Bool) (made :
   pub refused : (table table' : TableId) (spare : ℕ) (why : Refuse) → Tested p0 p1 last o (Some why) → table' ≡ table
       → Winds (old table spare) (show table' ticks spare top out made p1) o (Err why)
   refused table table' spare why t same = record {
-    tested = t.counter;
+    tested_at = t.counter;
     count = 0;
     tested_is = tested-shown (Some why) t table spare;
     count_is = λ n e. absurd (err_ok n why e);
@@ -169,7 +169,7 @@ module _ (p0 p1 : PenView) (ticks : List Hands) (top : ℕ) (out : Bool) (made :
       home = λ e. learns.home (s.out ∙ e) ∙ s.top;
       reached = λ m h at. learns.reached m h (subst (λ (l : List Hands). get_elem? l m ≡ some h) (sym s.journal) at);
       small = learns.small;
-      later = front-below count p0.counters _ (subst (AllBelow count) s.counters learns.later);
+      later = front-below count p0.counters _ (subst (AllAtMost count) s.counters learns.later);
     }
 
     -- what was loaded for the test is not above the count
@@ -221,7 +221,7 @@ module _ (p0 p1 : PenView) (ticks : List Hands) (top : ℕ) (out : Bool) (made :
             pub wound_it : (table table' : TableId) (spare spare' n : ℕ) → table' ≡ table → spare' ≡ spare - 1 → n ≡ length ticks
                 → Winds (old table spare) (show table' ticks' spare' top out made p3) o (Ok n)
             wound_it table table' spare spare' n same less number = let s = tested-same None t in record {
-              tested = t.counter;
+              tested_at = t.counter;
               count = count;
               tested_is = tested-shown None t table spare;
               count_is = λ m e. counter-shown p0 (old table spare) count holds.journal refl holds.top_is holds.out_is holds.legal learns-before;

@@ -24,7 +24,7 @@ use Rattle.clock_logs.specs.Logs.{IsAgain, IsEntry, tick_shown, newest_by, count
 use Rattle.clock_logs.proofs.Places.{counts-rise}
 use Rattle.tick_reads.specs.Ways.{needs_even, count_by}
 use Rattle.tick_views.specs.declared.views.PenView.{PenView}
-use Rattle.tick_views.specs.Worlds.{World, NeverFall, opening_of, IsTimely, FitsCount, FitsRead, MetWindup, LostSlot, FitsAgain, FitsEntry, count_if, counts_in, counts_of, FitsLog, FitsKept, AllBelow, or_else}
+use Rattle.tick_views.specs.Worlds.{World, NeverFall, opening_of, IsTimely, FitsCount, FitsRead, MetWindup, LostSlot, FitsAgain, FitsEntry, count_if, counts_in, counts_of, FitsLog, FitsKept, AllAtMost, or_else}
 use Rattle.tick_views.proofs.Grow.{in_list}
 use Rattle.tick_views.proofs.Loads.{there}
 use Rattle.tick_table.specs.Rule.{world_of}
@@ -238,7 +238,7 @@ module _ (w : World) (log : List Noted) (f : FitsLog w log) where
 pub kept_legal : (p : PenView) (i : ℕ) (k : Kept) → LegalLogs p → p.winding ≡ false → get_elem? p.kept i ≡ some k → IsKeptLegal p.journal p.top p.out k
 kept_legal p i k l unwound at =
     let n : ℕ = length p.journal - 1 in
-    let w : World = world_of l.words p n in
+    let w : World = world_of l.stood p n in
     let fits : FitsKept w k = l.each i k at in
     let some-tick : 0 < length p.journal = in_list p.journal 0 cold (to_some p.journal 0 cold l.journal.first) in
     let closed : w.turn ≡ 2 * (length p.journal - 1) = ap (λ b. 2 * n + cond b 1 0) unwound ∙ (let e : 2 * n + 0 ≡ 2 * n = omega arith in e) in
@@ -249,6 +249,6 @@ kept_legal p i k l unwound at =
       legal = log_legal w k.entries fits.log l.journal closed some-tick bound (l.reached unwound);
       since = log_since w k.entries fits.log;
       small = λ j x e here is. let up = within j x e here is in omega arith;
-      counters = λ home. subst (λ c. AllBelow c k.counters) (l.home home) fits.counters;
+      counters = λ home. subst (λ c. AllAtMost c k.counters) (l.home home) fits.counters;
       within = λ home. subst (λ c. AreWithin c (map entry_of k.entries)) (l.home home) within;
     }
