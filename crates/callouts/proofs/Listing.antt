@@ -1,8 +1,9 @@
 -- The list of live timers, where one comes or goes.
-use Rattle.std.proofs.Common.{◌≡◌, ℕ, zero, suc, ◌+◌, ◌<◌, Option, Some, None, List, [], ◌∷◌, length, set, get_or, replicate, refl, sym, ap, ◌∙◌, subst, arith, inl, inr}
+use Rattle.std.proofs.Common.{◌≡◌, ℕ, zero, suc, ◌+◌, ◌<◌, Option, Some, None, List, [], ◌∷◌, length, set, get_or, replicate, length-set, refl, sym, ap, ◌∙◌, subst, arith, inl, inr}
 use Rattle.std.specs.Prelude.{Contains}
 use Rattle.std.specs.List.Sorted.{IsPermutation}
 use Rattle.std.proofs.lemmas.Option.{none-some, same_Some}
+use Rattle.std.proofs.lemmas.List.{length-replicate}
 use Rattle.std.proofs.lemmas.List.Elements.{Contains-append_right, Contains-append_cases}
 use Rattle.std.proofs.lemmas.List.Sorted.{IsPermutation-refl, IsPermutation-cons, IsPermutation-trans, IsPermutation-middle}
 use Rattle.std.proofs.lemmas.List.Sums.{sum_by-cons}
@@ -84,9 +85,12 @@ none_listed zero q = refl
 none_listed (suc n) q = none_listed n (q + 1)
 
 -- the same of a wheel
-pub list_new : (room : ℕ) → listed (no_timers room) ≡ []
+pub list_new : (n : ℕ) → (listed (no_timers n) ≡ []) × (room (no_timers n) ≡ n) × ((no_timers n).added ≡ 0)
 unfolding listed
-list_new room = none_listed room 0
+list_new n = (none_listed n 0, length-replicate n None, refl)
+
+pub room_stays : (k : Kept) (p due : ℕ) → (room (with_timer k p due) ≡ room k) × (room (without k p) ≡ room k)
+room_stays k p due = (length-set k.places p (Some (record { id = k.added; due = due })), length-set k.places p None)
 
 pub list_count : (k : Kept) → length (listed k) ≡ live k
 unfolding listed

@@ -1,12 +1,12 @@
 // What follows of wheels, and of the timers that fire at ticks.
-ghost use Rattle.std.specs.Prelude.{◌≡◌, ℕ, ◌<◌, ◌≤◌, ◌↔◌, true, None, Some, List, [], ◌∷◌, All, Contains, length, slice_index_or};
+ghost use Rattle.std.specs.Prelude.{◌≡◌, ℕ, ◌+◌, ◌*◌, ◌^◌, ◌<◌, ◌≤◌, ◌↔◌, true, None, Some, List, [], ◌∷◌, All, Contains, length, slice_index_or};
 ghost use Rattle.std.specs.List.{filter};
 ghost use Rattle.std.specs.List.Sorted.{IsPermutation};
 ghost use Rattle.ff_hands.specs.declared.hands.Hands.{Hands};
 ghost use Rattle.callouts.specs.Timers.{Kept, room, live, timer_in, with_timer, without, no_timers, IsOf, fired_of, Fires, NoneDue};
 ghost use Rattle.callouts.specs.Lists.{living_at, listed};
-ghost use Rattle.callouts.specs.Queues.{placed, queue};
-ghost use Rattle.callouts.specs.Firings.{firings, fires_at, FiresAt};
+ghost use Rattle.callouts.specs.Queues.{placed, in_order, queue};
+ghost use Rattle.callouts.specs.Firings.{firings, fires_at, FiresAt, timers_of};
 ghost use Rattle.callouts.specs.declared.timers.Entry.{Entry};
 ghost use Rattle.callouts.specs.declared.timers.Fired.{Fired};
 ghost use Rattle.callouts.specs.declared.timers.Timer.{Timer};
@@ -21,7 +21,10 @@ pub fn timers_stay_at_their_places()
 /// The law that a wheel is a list of live timers, each with its place: a new one has none, what is added comes
 /// onto the list, and what is cancelled or fires goes from it.
 pub fn wheels_are_lists()
-    ensures new { (room : ℕ) → listed (no_timers room) ≡ [] }
+    ensures new { (n : ℕ) → (listed (no_timers n) ≡ []) × (room (no_timers n) ≡ n) × ((no_timers n).added ≡ 0) }
+    ensures room { (k : Kept) (p due : ℕ) → (room (with_timer k p due) ≡ room k) × (room (without k p) ≡ room k) }
+    ensures added { (k : Kept) (p due : ℕ) →
+        ((with_timer k p due).added ≡ k.added + 1) × ((without k p).added ≡ k.added) }
     ensures count { (k : Kept) → length (listed k) ≡ live k }
     ensures lives { (k : Kept) (p : ℕ) (e : Entry) →
         (timer_in k.places p ≡ Some e) ↔ Contains (listed k) (living_at p e) }
@@ -50,4 +53,10 @@ pub fn timers_fire_at_their_first_tick()
         slice_index_or (firings es ticks) n [] ≡ filter (fires_at ticks n) es }
     ensures first { (ticks : List Hands) (n : ℕ) (e : Entry) →
         (fires_at ticks n e ≡ true) ↔ FiresAt ticks n e }
+{}
+
+/// The law that the timers that a report asks for fire from the last to the first, one a second.
+pub fn asked_timers_are_worked()
+    ensures { in_order (timers_of 3 3) ≡
+        record { id = 2; due = 2 ^ 64 } ∷ record { id = 1; due = 2 * 2 ^ 64 } ∷ record { id = 0; due = 3 * 2 ^ 64 } ∷ [] }
 {}

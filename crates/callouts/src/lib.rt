@@ -16,8 +16,8 @@ mod winners;
 pub use asked::wheel_of;
 pub use firings::{Firing, fire_all};
 pub use laws::{
-    timers_fire_at_their_first_tick, timers_stay_at_their_places, wheels_are_lists,
-    wheels_are_queues,
+    asked_timers_are_worked, timers_fire_at_their_first_tick, timers_stay_at_their_places,
+    wheels_are_lists, wheels_are_queues,
 };
 pub use timers::{Entry, Fired, Timer, WheelFull};
 pub use wheel::Wheel;

@@ -1,8 +1,11 @@
-use Rattle.callouts.proofs.Listing.{list_new, list_count, list_has, list_is, list_adds, list_loses}
+use Rattle.callouts.proofs.Listing.{list_new, room_stays, list_count, list_has, list_is, list_adds, list_loses}
 use Rattle.callouts.proofs.laws.wheels_are_lists.Goals as goal
 
 pub returns-clause-new : goal.returns-clause-new
 returns-clause-new c = list_new
+
+pub returns-clause-room : goal.returns-clause-room
+returns-clause-room c = room_stays
 
 pub returns-clause-count : goal.returns-clause-count
 returns-clause-count c = list_count
