@@ -67,8 +67,11 @@ pub each_at : {A : Type 0} (P : ℕ → A → Type 0) (xs : List A) → AllAt P 
 each_at P xs all i x at = (let here : 0 + i ≡ i = omega arith in subst (λ n. P n x) here (at_each P xs 0 all i x at))
 
 pub legal_by : (ts : List Hands) (es : List Entry) → AllAt (λ k. IsEntry ts) 0 es → climbs tick_shown 0 es ≡ true → climbs count_shown 0 es ≡ true → IsLog ts es
-legal_by ts es all ticks_climb counts_climb = record { each = each_at (λ k. IsEntry ts) es all; ticks_rise = rise tick_shown es 0 ticks_climb;
-    counts_rise = rise count_shown es 0 counts_climb }
+legal_by ts es all ticks_climb counts_climb = record {
+  each = each_at (λ k. IsEntry ts) es all;
+  ticks_rise = rise tick_shown es 0 ticks_climb;
+  counts_rise = rise count_shown es 0 counts_climb;
+}
 
 -- no tick interrupts a clock from a tick to itself, or to the next one where that does not
 pub same_tick : (c : Clock) (ts : List Hands) (m : ℕ) → IsUninterrupted c ts m m
@@ -85,12 +88,22 @@ next_tick c ts m g there goes k h low high at =
 pub two_rise : (ts : List Hands) (c : Clock) (r s : Reading) → Rises ts ((entry.Read r ∷ []) ∷ (entry.Read s ∷ []) ∷ []) → Reads c r.kind
     → Reads c s.kind → r.count ≤ s.count → IsUninterrupted c ts (min r.tick s.tick) (max r.tick s.tick) → number_of r.time ≤ℤ number_of s.time
 two_rise ts c r s rises reads also order on =
-    rises c r s record { reader = 0; place = 0; entries = entry.Read r ∷ []; log = refl; here = refl } record { reader = 1; place = 0;
-        entries = entry.Read s ∷ []; log = refl; here = refl } reads also order on
+    rises c r s record { reader = 0; place = 0; entries = entry.Read r ∷ []; log = refl; here = refl } record {
+      reader = 1;
+      place = 0;
+      entries = entry.Read s ∷ [];
+      log = refl;
+      here = refl;
+    } reads also order on
 
 -- and of one
 pub one_rises : (ts : List Hands) (c : Clock) (r s : Reading) → Rises ts ((entry.Read r ∷ entry.Read s ∷ []) ∷ []) → Reads c r.kind → Reads c s.kind
     → r.count ≤ s.count → IsUninterrupted c ts (min r.tick s.tick) (max r.tick s.tick) → number_of r.time ≤ℤ number_of s.time
 one_rises ts c r s rises reads also order on =
-    rises c r s record { reader = 0; place = 0; entries = entry.Read r ∷ entry.Read s ∷ []; log = refl; here = refl } record { reader = 0; place = 1;
-        entries = entry.Read r ∷ entry.Read s ∷ []; log = refl; here = refl } reads also order on
+    rises c r s record { reader = 0; place = 0; entries = entry.Read r ∷ entry.Read s ∷ []; log = refl; here = refl } record {
+      reader = 0;
+      place = 1;
+      entries = entry.Read r ∷ entry.Read s ∷ [];
+      log = refl;
+      here = refl;
+    } reads also order on

@@ -5,7 +5,9 @@ mod laws;
 mod noted;
 mod refusals;
 
-pub use laws::{attempts_are_never_ahead, clocks_never_fall, past_counts_are_current};
+pub use laws::{
+    attempts_are_never_ahead, clocks_never_fall, kinds_take_turns, past_counts_are_current,
+};
 pub use noted::{Kept, Noted};
 pub use refusals::{
     ahead_has_a_cause, attempts_are_all, attempts_are_in_turn, clocks_are_interrupted,

@@ -4,7 +4,7 @@ ghost use Rattle.ff_hands.specs.Samples.{ticks, warm_ticks, steered_ticks};
 ghost use Rattle.ff_hands.specs.declared.hands.How.TheVariants as how;
 ghost use Rattle.clock_lines.specs.declared.readings.Entry.TheVariants as entry;
 ghost use Rattle.clock_lines.specs.declared.readings.Kind.TheVariants as kind;
-ghost use Rattle.clock_logs.specs.Attempts.{AnswersNext, AreAttempts};
+ghost use Rattle.clock_logs.specs.Attempts.{AnswersNext, AreAttempts, kinds_of};
 ghost use Rattle.clock_logs.specs.Logs.{IsEntry, IsLog, IsSince, AreSince, AreWithin};
 ghost use Rattle.clock_logs.specs.Rises.{line, uptime, GoesOn, IsUninterrupted, Reads, Rises};
 ghost use Rattle.clock_logs.specs.Samples.{read, every, earlier, later, rising, since, six};
@@ -192,34 +192,37 @@ pub fn counts_are_within()
 
 /// The law of which entry answers which attempt.
 pub fn attempts_are_in_turn()
-    ensures abs { AnswersNext 1000 true ([]) 0 (read kind.Abs 2 45 100 154424509500 73787105146) }
-    ensures mono { AnswersNext 1000 true ([]) 1 (read kind.Mono 2 45 100 150323855380 73787105146) }
-    ensures uptime { AnswersNext 1000 true ([]) 2 (read kind.Uptime 2 45 0 150323855380 73787105146) }
-    ensures fast { AnswersNext 1000 true ([]) 3 (read kind.Fast 2 40 100 132949673000 73787062196) }
-    ensures diff { AnswersNext 1000 true ([]) 4 (read kind.Diff 2 1000 0 4294967300000 8589935) }
-    ensures back { AnswersNext 1000 true (read kind.Abs 2 45 100 154424509500 73787105146 ∷ []) 5 (read kind.Back 2 45 100 150323855380 73787105146) }
-    ensures back_of_none { AnswersNext 1000 true (read kind.Mono 2 45 100 150323855380 73787105146 ∷ []) 5 (read kind.Back 0 0 0 0 0) }
-    ensures back_behind_others { AnswersNext 1000 true (read kind.Abs 2 45 100 154424509500 73787105146 ∷ read kind.Uptime 2 47 0 158913789980 73787122325 ∷ read kind.Utc 2 48 62 167309411400 73787130915 ∷ []) 5 (read kind.Back 2 45 100 150323855380 73787105146) }
-    ensures then_abs { AnswersNext 1000 true ([]) 6 (read kind.Abs 2 45 100 154424509500 73787105146) }
-    ensures without_back { AnswersNext 1000 false ([]) 5 (read kind.Abs 2 45 100 154424509500 73787105146) }
-    ensures again { AnswersNext 1000 true ([]) 3 (entry.Again kind.Fast 4 24) }
-    ensures too_old { AnswersNext 1000 true (read kind.Abs 2 45 100 154424509500 73787105146 ∷ []) 5 (entry.TooOld 45 50) }
-    ensures ahead { AnswersNext 1000 true (read kind.Abs 2 45 100 154424509500 73787105146 ∷ []) 5 (entry.Ahead 45 44) }
-    ensures not_in_turn { AnswersNext 1000 true ([]) 0 (read kind.Mono 2 45 100 150323855380 73787105146) → ⊥ }
-    ensures interval { AnswersNext 1000 true ([]) 4 (read kind.Diff 2 999 0 4290672332700 8581345) → ⊥ }
-    ensures count { AnswersNext 1000 true (read kind.Abs 2 45 100 154424509500 73787105146 ∷ []) 5 (read kind.Back 2 44 100 146028888080 73787096556) → ⊥ }
-    ensures again_of_other { AnswersNext 1000 true ([]) 3 (entry.Again kind.Abs 4 6) → ⊥ }
-    ensures too_old_of_other { AnswersNext 1000 true (read kind.Abs 2 45 100 154424509500 73787105146 ∷ []) 5 (entry.TooOld 44 50) → ⊥ }
-    ensures too_old_out_of_turn { AnswersNext 1000 true (read kind.Abs 2 45 100 154424509500 73787105146 ∷ []) 4 (entry.TooOld 45 50) → ⊥ }
-    ensures ahead_of_other { AnswersNext 1000 true (read kind.Abs 2 45 100 154424509500 73787105146 ∷ []) 5 (entry.Ahead 46 44) → ⊥ }
+    ensures abs { AnswersNext 1000 (kinds_of true false) ([]) 0 (read kind.Abs 2 45 100 154424509500 73787105146) }
+    ensures mono { AnswersNext 1000 (kinds_of true false) ([]) 1 (read kind.Mono 2 45 100 150323855380 73787105146) }
+    ensures uptime { AnswersNext 1000 (kinds_of true false) ([]) 2 (read kind.Uptime 2 45 0 150323855380 73787105146) }
+    ensures fast { AnswersNext 1000 (kinds_of true false) ([]) 3 (read kind.Fast 2 40 100 132949673000 73787062196) }
+    ensures diff { AnswersNext 1000 (kinds_of true false) ([]) 4 (read kind.Diff 2 1000 0 4294967300000 8589935) }
+    ensures back { AnswersNext 1000 (kinds_of true false) (read kind.Abs 2 45 100 154424509500 73787105146 ∷ []) 5 (read kind.Back 2 45 100 150323855380 73787105146) }
+    ensures back_of_none { AnswersNext 1000 (kinds_of true false) (read kind.Mono 2 45 100 150323855380 73787105146 ∷ []) 5 (read kind.Back 0 0 0 0 0) }
+    ensures back_behind_others { AnswersNext 1000 (kinds_of true false) (read kind.Abs 2 45 100 154424509500 73787105146 ∷ read kind.Uptime 2 47 0 158913789980 73787122325 ∷ read kind.Utc 2 48 62 167309411400 73787130915 ∷ []) 5 (read kind.Back 2 45 100 150323855380 73787105146) }
+    ensures then_abs { AnswersNext 1000 (kinds_of true false) ([]) 6 (read kind.Abs 2 45 100 154424509500 73787105146) }
+    ensures without_back { AnswersNext 1000 (kinds_of false false) ([]) 5 (read kind.Abs 2 45 100 154424509500 73787105146) }
+    ensures utc { AnswersNext 1000 (kinds_of false true) ([]) 5 (read kind.Utc 2 48 62 167309411400 73787130915) }
+    ensures utc_behind_back { AnswersNext 1000 (kinds_of true true) ([]) 6 (read kind.Utc 2 48 62 167309411400 73787130915) }
+    ensures abs_behind_utc { AnswersNext 1000 (kinds_of true true) ([]) 7 (read kind.Abs 2 45 100 154424509500 73787105146) }
+    ensures again { AnswersNext 1000 (kinds_of true false) ([]) 3 (entry.Again kind.Fast 4 24) }
+    ensures too_old { AnswersNext 1000 (kinds_of true false) (read kind.Abs 2 45 100 154424509500 73787105146 ∷ []) 5 (entry.TooOld 45 50) }
+    ensures ahead { AnswersNext 1000 (kinds_of true false) (read kind.Abs 2 45 100 154424509500 73787105146 ∷ []) 5 (entry.Ahead 45 44) }
+    ensures not_in_turn { AnswersNext 1000 (kinds_of true false) ([]) 0 (read kind.Mono 2 45 100 150323855380 73787105146) → ⊥ }
+    ensures interval { AnswersNext 1000 (kinds_of true false) ([]) 4 (read kind.Diff 2 999 0 4290672332700 8581345) → ⊥ }
+    ensures count { AnswersNext 1000 (kinds_of true false) (read kind.Abs 2 45 100 154424509500 73787105146 ∷ []) 5 (read kind.Back 2 44 100 146028888080 73787096556) → ⊥ }
+    ensures again_of_other { AnswersNext 1000 (kinds_of true false) ([]) 3 (entry.Again kind.Abs 4 6) → ⊥ }
+    ensures too_old_of_other { AnswersNext 1000 (kinds_of true false) (read kind.Abs 2 45 100 154424509500 73787105146 ∷ []) 5 (entry.TooOld 44 50) → ⊥ }
+    ensures too_old_out_of_turn { AnswersNext 1000 (kinds_of true false) (read kind.Abs 2 45 100 154424509500 73787105146 ∷ []) 4 (entry.TooOld 45 50) → ⊥ }
+    ensures ahead_of_other { AnswersNext 1000 (kinds_of true false) (read kind.Abs 2 45 100 154424509500 73787105146 ∷ []) 5 (entry.Ahead 46 44) → ⊥ }
 {}
 
 /// The law that each attempt has an entry.
 pub fn attempts_are_all()
-    ensures six { AreAttempts 1000 true 6 six }
-    ensures few { AreAttempts 1000 true 2 (read kind.Abs 2 45 100 154424509500 73787105146 ∷ []) → ⊥ }
-    ensures many { AreAttempts 1000 true 0 (read kind.Abs 2 45 100 154424509500 73787105146 ∷ []) → ⊥ }
-    ensures other { AreAttempts 1000 true 1 (read kind.Mono 2 45 100 150323855380 73787105146 ∷ []) → ⊥ }
+    ensures six { AreAttempts 1000 (kinds_of true false) 6 six }
+    ensures few { AreAttempts 1000 (kinds_of true false) 2 (read kind.Abs 2 45 100 154424509500 73787105146 ∷ []) → ⊥ }
+    ensures many { AreAttempts 1000 (kinds_of true false) 0 (read kind.Abs 2 45 100 154424509500 73787105146 ∷ []) → ⊥ }
+    ensures other { AreAttempts 1000 (kinds_of true false) 1 (read kind.Mono 2 45 100 150323855380 73787105146 ∷ []) → ⊥ }
 {}
 
 /// The law of what interrupts a clock, and of what reads it.

@@ -76,16 +76,16 @@ unfolding command_in items_in items_from
 made = refl
 
 -- flags and options of `replay`, each at its default where the words do not tell
-plain_replay : command_in (codes "replay" ∷ []) ≡ Some (command.Report (report.Replay 4 2 100 false false))
+plain_replay : command_in (codes "replay" ∷ []) ≡ Some (command.Report (report.Replay 4 2 100 false false false))
 unfolding command_in items_in items_from
 plain_replay = refl
 
-full_replay : command_in (codes "replay" ∷ codes "--crank" ∷ codes "--readers=16" ∷ codes "--ticks" ∷ codes "15" ∷ codes "--back" ∷ codes "--reads"
-    ∷ codes "16384" ∷ []) ≡ Some (command.Report (report.Replay 15 16 16384 true true))
+full_replay : command_in (codes "replay" ∷ codes "--crank" ∷ codes "--readers=16" ∷ codes "--ticks" ∷ codes "15" ∷ codes "--back" ∷ codes "--utc"
+    ∷ codes "--reads" ∷ codes "16384" ∷ []) ≡ Some (command.Report (report.Replay 15 16 16384 true true true))
 unfolding command_in items_in items_from
 full_replay = refl
 
-one_flag : command_in (codes "replay" ∷ codes "--reads=0" ∷ codes "--crank" ∷ []) ≡ Some (command.Report (report.Replay 4 2 0 false true))
+one_flag : command_in (codes "replay" ∷ codes "--reads=0" ∷ codes "--crank" ∷ []) ≡ Some (command.Report (report.Replay 4 2 0 false true false))
 unfolding command_in items_in items_from
 one_flag = refl
 

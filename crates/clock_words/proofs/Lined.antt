@@ -9,7 +9,7 @@ use Rattle.std.proofs.lemmas.Slice.Eq.{bytes_eq-Decides}
 use Rattle.stamp_text.specs.Digits.{is_number, number_in}
 use Rattle.clock_words.specs.Rows.{Text, Item, has, is_given, is_value, items_in, items_from}
 use Rattle.clock_words.specs.Parts.{AreOnce, AreParts, AreWritten, dashed, nothing, flag, apart, joined, placed}
-use Rattle.clock_words.specs.Lines.{IsLine, stamps, rtt, estimate, ticks, replay, make, run, ideal_run, bare_row, ticks_row, replay_row, make_row, run_row, back_name, crank_name, ideal_name, number_name, count_name, most_made, most_ran, within, number_within, ticks_told, readers_told, reads_told, ticks_of, replay_by, replay_of, make_of, run_of, ideal_is_early, command_in}
+use Rattle.clock_words.specs.Lines.{IsLine, stamps, rtt, estimate, ticks, replay, make, run, ideal_run, bare_row, ticks_row, replay_row, make_row, run_row, back_name, crank_name, utc_name, ideal_name, number_name, count_name, most_made, most_ran, within, number_within, ticks_told, readers_told, reads_told, ticks_of, replay_by, replay_of, make_of, run_of, ideal_is_early, command_in}
 use Rattle.clock_words.specs.declared.commands.Command.{Command}
 use Rattle.clock_words.specs.declared.commands.Command.TheVariants as command
 use Rattle.clock_words.specs.declared.commands.Report.{Report}
@@ -67,8 +67,14 @@ placed_word left all items (joined n v l ws is h rest) w words e other = absurd 
 placed_word left all items (placed n v l ws is u rest) w words e other =
     let same : v ≡ w = (let q : v ∷ ws ≡ w ∷ words = e in cc) in
     let others : ws ≡ words = (let q : v ∷ ws ≡ w ∷ words = e in cc) in
-    record { place = n; more = l; rest = is; left_is = refl; items_are = ap (λ x. (n, x) ∷ is) same;
-        parts = subst (λ ws. AreParts run_row l ws is) others rest }
+    record {
+      place = n;
+      more = l;
+      rest = is;
+      left_is = refl;
+      items_are = ap (λ x. (n, x) ∷ is) same;
+      parts = subst (λ ws. AreParts run_row l ws is) others rest;
+    }
 
 -- no words are no items
 no_items : (left words : List Text) (items : List Item) → AreParts run_row left words items → words ≡ [] → items ≡ []
@@ -89,8 +95,11 @@ few_words left words items (nothing l) e once = inl (refl, refl)
 few_words left words items (flag n l ws is h rest) e once =
     let same = ideal_flag n h in
     elim (few_words l ws is rest e once.1) [
-      | inl none ↦ inr (ap (λ m. dashed m ∷ ws) same ∙ ap (λ ws. codes "--ideal" ∷ ws) none.0, ap (λ m. (m, codes "true") ∷ is) same
-          ∙ ap (λ is. (ideal_name, codes "true") ∷ is) none.1)
+      | inl none ↦ inr (
+        ap (λ m. dashed m ∷ ws) same ∙ ap (λ ws. codes "--ideal" ∷ ws) none.0,
+        ap (λ m. (m, codes "true") ∷ is) same
+            ∙ ap (λ is. (ideal_name, codes "true") ∷ is) none.1,
+      )
       | inr one ↦ absurd (
           let twice : AreOnce ((n, codes "true") ∷ only_flag) = subst (λ is. AreOnce ((n, codes "true") ∷ is)) one.1 once in
           true≢false (sym ((bytes_eq-Decides n ideal_name).1 same) ∙ twice.0.0))
@@ -130,15 +139,15 @@ replay_line words c e = by_items (items_in replay_row words) refl
   where
     by_numbers : (items : List Item) → items_in replay_row words ≡ Some items → (n : Option ℕ) → ticks_told items ≡ n
         → (readers : Option ℕ) → readers_told items ≡ readers
-        → (reads : Option ℕ) → reads_told items ≡ reads → replay_by (is_given back_name items) (is_given crank_name items) n readers reads ≡ Some c
-            → IsLine (codes "replay" ∷ words) c
+        → (reads : Option ℕ) → reads_told items ≡ reads → replay_by (is_given back_name items) (is_given crank_name items) (is_given utc_name items)
+        n readers reads ≡ Some c → IsLine (codes "replay" ∷ words) c
     by_numbers items f None k readers l reads m h = absurd (let q : None ≡ Some c = h in cc)
     by_numbers items f (Some n) k None l reads m h = absurd (let q : None ≡ Some c = h in cc)
     by_numbers items f (Some n) k (Some readers) l None m h = absurd (let q : None ≡ Some c = h in cc)
     by_numbers items f (Some n) k (Some readers) l (Some reads) m h =
         subst (IsLine (codes "replay" ∷ words)) (let q : command.Report
-            (report.Replay n readers reads (is_given back_name items) (is_given crank_name items)) ≡ c = cc in q)
-            (replay words items n readers reads ((written replay_row refl words items).0 f) k l m)
+        (report.Replay n readers reads (is_given back_name items) (is_given crank_name items) (is_given utc_name items)) ≡ c = cc in q)
+        (replay words items n readers reads ((written replay_row refl words items).0 f) k l m)
 
     by_items : (x : Option (List Item)) → items_in replay_row words ≡ x → IsLine (codes "replay" ∷ words) c
     by_items None f = absurd (let q : None ≡ Some c = sym (rw f refl) ∙ e in cc)
@@ -192,7 +201,7 @@ run_items (v ∷ []) items c late parts once e =
     let first = placed_word _ _ items parts v [] refl (or_false _ false late).0 in
     let place : number_name ≡ first.place = (let q : number_name ∷ count_name ∷ [] ≡ first.place ∷ first.more = first.left_is in cc) in
     let one : items ≡ (number_name, v) ∷ [] = first.items_are ∙ ap (λ m. (m, v) ∷ first.rest) (sym place)
-        ∙ ap (λ is. (number_name, v) ∷ is) (no_items _ [] first.rest first.parts refl) in
+    ∙ ap (λ is. (number_name, v) ∷ is) (no_items _ [] first.rest first.parts refl) in
     absurd (no_pair (ran false) (number_within 0 (2 ^ 32 - 1) v) c (sym (ap run_of one) ∙ e))
 run_items (v ∷ w ∷ ws) items c late parts once e =
     let others = or_false _ _ late in
@@ -204,17 +213,17 @@ run_items (v ∷ w ∷ ws) items c late parts once e =
     let place_2 : count_name ≡ second.place = cc in
     let left_2 : second.more ≡ [] = cc in
     let two : items ≡ (number_name, v) ∷ (count_name, w) ∷ second.rest = first.items_are ∙ ap (λ m. (m, v) ∷ first.rest) (sym place)
-        ∙ ap (λ is. (number_name, v) ∷ is) (second.items_are ∙ ap (λ m. (m, w) ∷ second.rest) (sym place_2)) in
+    ∙ ap (λ is. (number_name, v) ∷ is) (second.items_are ∙ ap (λ m. (m, w) ∷ second.rest) (sym place_2)) in
     let once_2 : AreOnce ((number_name, v) ∷ (count_name, w) ∷ second.rest) = subst AreOnce two once in
     elim (few_words second.more ws second.rest second.parts left_2 once_2.1.1) [
       | inl none ↦
           let all : items ≡ (number_name, v) ∷ (count_name, w) ∷ [] = two ∙ ap (λ is. (number_name, v) ∷ (count_name, w) ∷ is) none.1 in
           subst (λ ws. IsLine (codes "run" ∷ v ∷ w ∷ ws) c) (sym none.0)
-              (two_numbers (ran false) (IsLine (codes "run" ∷ v ∷ w ∷ [])) most_ran v w (run v w) c (sym (ap run_of all) ∙ e))
+          (two_numbers (ran false) (IsLine (codes "run" ∷ v ∷ w ∷ [])) most_ran v w (run v w) c (sym (ap run_of all) ∙ e))
       | inr one ↦
           let all : items ≡ (number_name, v) ∷ (count_name, w) ∷ only_flag = two ∙ ap (λ is. (number_name, v) ∷ (count_name, w) ∷ is) one.1 in
           subst (λ ws. IsLine (codes "run" ∷ v ∷ w ∷ ws) c) (sym one.0)
-              (two_numbers (ran true) (IsLine (codes "run" ∷ v ∷ w ∷ codes "--ideal" ∷ [])) most_ran v w (ideal_run v w) c (sym (ap run_of all) ∙ e))
+          (two_numbers (ran true) (IsLine (codes "run" ∷ v ∷ w ∷ codes "--ideal" ∷ [])) most_ran v w (ideal_run v w) c (sym (ap run_of all) ∙ e))
     ]
 
 run_line : (words : List Text) (c : Command) → (if ideal_is_early words then None else option_and_then run_of (items_in run_row words)) ≡ Some c

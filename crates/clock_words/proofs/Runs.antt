@@ -28,9 +28,9 @@ said words arguments late e = by_items (items_in run_row words) refl
     by_items (Some items) f =
         let same : arguments ≡ with_flags run_row items = (let q : Some arguments ≡ Some (with_flags run_row items) = e ∙ rw f refl in cc) in
         let number : value_of number_name arguments ≡ value_of number_name items = ap (value_of number_name) same
-            ∙ option_value number_name run_row.flags items refl in
+        ∙ option_value number_name run_row.flags items refl in
         let count : value_of count_name arguments ≡ value_of count_name items = ap (value_of count_name) same
-            ∙ option_value count_name run_row.flags items refl in
+        ∙ option_value count_name run_row.flags items refl in
         record {
           ideal = is_given ideal_name items;
           ideal_is = ap (value_of ideal_name) same ∙ flag_value run_row ideal_name words items ((written run_row refl words items).0 f).parts refl refl refl;
@@ -41,7 +41,7 @@ said words arguments late e = by_items (items_in run_row words) refl
 pub is_run : (words : List Text) (arguments : List Item) → ideal_is_early words ≡ false
     → Some arguments ≡ option_map (with_flags run_row) (items_in run_row words)
     → (numbers : ℕ × ℕ) → Some numbers ≡ places_told most_ran arguments
-        → (ideal : Bool) → ((given : Bool) → value_of ideal_name arguments ≡ Some (flag_text given) → ideal ≡ given)
+    → (ideal : Bool) → ((given : Bool) → value_of ideal_name arguments ≡ Some (flag_text given) → ideal ≡ given)
     → Some (command.Run numbers.0 numbers.1 ideal) ≡ run_in words
 is_run words arguments late e numbers told ideal given =
     let s = said words arguments late e in

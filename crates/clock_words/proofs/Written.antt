@@ -32,7 +32,7 @@ record Clear (row : Row) : Type 0 where
 clear : (row : Row) → is_clear row ≡ true → Clear row
 clear row e =
     let p = and_true (list_all (λ n. not (has_equals n)) row.options && list_all (λ n. not (has_equals n)) row.flags)
-        (list_all (λ n. not (has row.options n)) row.flags) e in
+    (list_all (λ n. not (has row.options n)) row.flags) e in
     let q = and_true (list_all (λ n. not (has_equals n)) row.options) (list_all (λ n. not (has_equals n)) row.flags) p.0 in
     record {
       option = λ n h. all_pass has_equals row.options n q.0 h;
@@ -76,7 +76,7 @@ cut_is (x ∷ xs) e = by_equals (x == 61) refl (cut_is xs)
     by_equals false f more =
         let n = to_equals xs in
         rw f (ap (λ ys. x ∷ ys) (more (sym (ap (λ b. b || has_equals xs) f) ∙ e))
-            ∙ sym (ap (λ k. k ++ codes "=" ++ drop (1 + n + 1) (x ∷ xs)) (take_more n x xs) ∙ ap (λ k. (x ∷ take n xs) ++ codes "=" ++ k) (drop_more n x xs)))
+        ∙ sym (ap (λ k. k ++ codes "=" ++ drop (1 + n + 1) (x ∷ xs)) (take_more n x xs) ∙ ap (λ k. (x ∷ take n xs) ++ codes "=" ++ k) (drop_more n x xs)))
 
 -- ---- words `--name` and `--name=value`
 
@@ -108,7 +108,7 @@ named_words w n x e = by_dashes (bytes_eq (take 2 w) (codes "--")) refl
     by_dashes true f =
         let cut : Some (cut_at_equals (drop 2 w)) ≡ Some (n, x) = sym (rw f refl) ∙ e in
         sym (take-append-drop 2 w) ∙ ap (λ k. k ++ drop 2 w) ((bytes_eq-Decides (take 2 w) (codes "--")).0 f)
-            ∙ ap (λ k. codes "--" ++ k) (uncut (drop 2 w) n x (cc))
+        ∙ ap (λ k. codes "--" ++ k) (uncut (drop 2 w) n x (cc))
     by_dashes false f = absurd (let q : None ≡ Some (n, x) = sym (rw f refl) ∙ e in cc)
 
 dash_char : (ys : Text) → is_some (slice_get (chars (45 ∷ ys)) 0) ≡ true
@@ -235,8 +235,12 @@ to_option row w ws idles name left before items h once e = by_value (is_value w)
 to_parts : (row : Row) (words : List Text) → Idles row words × Waits row words
 unfolding items_from
 to_parts row [] = (
-  λ left before items once e. record { new = []; is = (let q : items ≡ before = cc in q ∙ sym (append-nil before)); parts = nothing left;
-      once = subst AreOnce (let q : before ≡ items = cc in q) once },
+  λ left before items once e. record {
+    new = [];
+    is = (let q : items ≡ before = cc in q ∙ sym (append-nil before));
+    parts = nothing left;
+    once = subst AreOnce (let q : before ≡ items = cc in q) once;
+  },
   λ name left before items h once e. absurd (let q : None ≡ Some items = e in cc),
 )
 to_parts row (w ∷ ws) = let more = to_parts row ws in (to_part row w ws more, to_option row w ws more.0)

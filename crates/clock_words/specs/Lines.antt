@@ -26,6 +26,9 @@ back_name = codes "back"
 abbrev pub crank_name : Text
 crank_name = codes "crank"
 
+abbrev pub utc_name : Text
+utc_name = codes "utc"
+
 abbrev pub number_name : Text
 number_name = codes "NUMBER"
 
@@ -51,9 +54,9 @@ make_row = record { places = number_name ∷ count_name ∷ []; options = []; fl
 abbrev pub run_row : Row
 run_row = record { places = number_name ∷ count_name ∷ []; options = []; flags = ideal_name ∷ [] }
 
--- `--ticks T`, `--readers N`, `--reads M`, `--back` and `--crank`
+-- `--ticks T`, `--readers N`, `--reads M`, `--back`, `--crank` and `--utc`
 abbrev pub replay_row : Row
-replay_row = record { places = []; options = ticks_name ∷ readers_name ∷ reads_name ∷ []; flags = back_name ∷ crank_name ∷ [] }
+replay_row = record { places = []; options = ticks_name ∷ readers_name ∷ reads_name ∷ []; flags = back_name ∷ crank_name ∷ utc_name ∷ [] }
 
 -- the number that a text is, from `least` to `most`
 abbrev pub within : ℕ → ℕ → Option ℕ → Option ℕ
@@ -106,13 +109,15 @@ reads_told items = option_within 0 most_reads 100 (value_of reads_name items)
 abbrev pub ticks_of : List Item → Option Command
 ticks_of items = option_map (λ n. command.Report (report.Ticks n)) (ticks_told items)
 
--- `replay` by three numbers, where each is one, and two flags
-abbrev pub replay_by : Bool → Bool → Option ℕ → Option ℕ → Option ℕ → Option Command
-replay_by back crank n readers reads = option_map (λ n. command.Report (report.Replay n.0 n.1.0 n.1.1 back crank)) (option_zip n (option_zip readers reads))
+-- `replay` by three numbers, where each is one, and three flags
+abbrev pub replay_by : Bool → Bool → Bool → Option ℕ → Option ℕ → Option ℕ → Option Command
+replay_by back crank utc n readers reads = option_map (λ n. command.Report (report.Replay n.0 n.1.0 n.1.1 back crank utc))
+    (option_zip n (option_zip readers reads))
 
 -- `replay`: the numbers of its options, and which of its flags are given
 abbrev pub replay_of : List Item → Option Command
-replay_of items = replay_by (is_given back_name items) (is_given crank_name items) (ticks_told items) (readers_told items) (reads_told items)
+replay_of items = replay_by (is_given back_name items) (is_given crank_name items) (is_given utc_name items) (ticks_told items) (readers_told items)
+    (reads_told items)
 
 -- the two numbers that places give: one below 2^32, and a count from 1 to `most`
 abbrev pub places_told : ℕ → List Item → Option (ℕ × ℕ)
@@ -181,7 +186,8 @@ pub data IsLine : List Text → Command → Type 0 where
       → IsLine (codes "ticks" ∷ words) (command.Report (report.Ticks n))
   replay : (words : List Text) (items : List Item) (n readers reads : ℕ) → AreWritten replay_row words items → ticks_told items ≡ Some n
       → readers_told items ≡ Some readers → reads_told items ≡ Some reads
-      → IsLine (codes "replay" ∷ words) (command.Report (report.Replay n readers reads (is_given back_name items) (is_given crank_name items)))
+      → IsLine (codes "replay" ∷ words) (command.Report (report.Replay n readers reads (is_given back_name items) (is_given crank_name items)
+      (is_given utc_name items)))
   make : (first second : Text) (number count : ℕ) → number_within 0 (2 ^ 32 - 1) first ≡ Some number → number_within 1 most_made second ≡ Some count
       → IsLine (codes "make" ∷ first ∷ second ∷ []) (command.Make number count)
   run : (first second : Text) (number count : ℕ) → number_within 0 (2 ^ 32 - 1) first ≡ Some number → number_within 1 most_ran second ≡ Some count
@@ -199,7 +205,7 @@ IsReportInRange report.Stamps = Unit {0}
 IsReportInRange report.Rtt = Unit {0}
 IsReportInRange report.Estimate = Unit {0}
 IsReportInRange (report.Ticks n) = n ≤ most_ticks
-IsReportInRange (report.Replay n readers reads back crank) = (n ≤ most_ticks) × (readers ≤ most_readers) × (reads ≤ most_reads)
+IsReportInRange (report.Replay n readers reads back crank utc) = (n ≤ most_ticks) × (readers ≤ most_readers) × (reads ≤ most_reads)
 
 -- the numbers of a command are in their ranges
 abbrev pub IsCommandInRange : Command → Type 0

@@ -27,6 +27,8 @@ pub enum Report {
         back: bool,
         /// The counter is raised beside the driver too.
         crank: bool,
+        /// The readers also read `Utc`.
+        utc: bool,
     },
 }
 

@@ -112,6 +112,7 @@ fn replay<'a>(alloc: Global, words: &'a [&'a str]) -> Result<Option<Command>, Er
             reads: reads as u32,
             back: arguments.flag("back"),
             crank: arguments.flag("crank"),
+            utc: arguments.flag("utc"),
         }))),
         _ => Ok(None),
     }

@@ -9,7 +9,7 @@ ceil_by_parts n p d h =
     let all : (n / d * d + n % d) * p ≡ n * p = ap (λ x. x * p) (div-add-mod' n d) in
     let split : n / d * p * d + n % d * p ≡ n * p = omega arith in
     let parts : div_ceil (n / d * p * d + n % d * p) d ≡ n / d * p
-        + div_ceil (n % d * p) d = grind (arith, mul-add-div_right h (n / d * p) (n % d * p), mul-add-mod_self_right (n / d * p) d (n % d * p)) in
+    + div_ceil (n % d * p) d = grind (arith, mul-add-div_right h (n / d * p) (n % d * p), mul-add-mod_self_right (n / d * p) d (n % d * p)) in
     sym parts ∙ ap (λ x. div_ceil x d) split
 
 -- a quotient by 10^12 = 2^12 * 244140625, with what the shift leaves in two digits of 36 bits

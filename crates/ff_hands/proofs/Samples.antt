@@ -21,16 +21,34 @@ linked a (b ∷ rest) all zero h next at then =
 linked a (b ∷ rest) all (suc n) h next at then = linked b rest all.1 n h next at then
 
 pub journal_by : (rest : List Hands) → Linked cold rest → IsJournal (cold ∷ rest)
-journal_by rest all = record { first = refl; next = λ n h next at then. linked cold rest all n h next at
-    ((let e : suc n ≡ n + 1 = omega arith in ap (slice_get (cold ∷ rest)) e) ∙ then) }
+journal_by rest all = record {
+  first = refl;
+  next = λ n h next at then. linked cold rest all n h next at
+      ((let e : suc n ≡ n + 1 = omega arith in ap (slice_get (cold ∷ rest)) e) ∙ then);
+}
 
 -- the plain ticks from one on
 later : Linked (on 50) (on 60 ∷ on 70 ∷ on 80 ∷ on 90 ∷ on 100 ∷ on 110 ∷ on 120 ∷ on 130 ∷ on 140 ∷ [])
 unfolding wind_of
-later = (record { fits = refl; wound = refl }, (record { fits = refl; wound = refl },
-    (record { fits = refl; wound = refl }, (record { fits = refl; wound = refl },
-    (record { fits = refl; wound = refl }, (record { fits = refl; wound = refl },
-    (record { fits = refl; wound = refl }, (record { fits = refl; wound = refl }, (record { fits = refl; wound = refl }, tt)))))))))
+later = (
+  record { fits = refl; wound = refl },
+  (
+    record { fits = refl; wound = refl },
+    (
+      record { fits = refl; wound = refl },
+      (
+        record { fits = refl; wound = refl },
+        (
+          record { fits = refl; wound = refl },
+          (
+            record { fits = refl; wound = refl },
+            (record { fits = refl; wound = refl }, (record { fits = refl; wound = refl }, (record { fits = refl; wound = refl }, tt))),
+          ),
+        ),
+      ),
+    ),
+  ),
+)
 
 pub taken_journal : IsJournal ticks
 unfolding wind_of
@@ -42,10 +60,22 @@ jumped_journal = journal_by _ (record { fits = refl; wound = refl }, (record { f
 
 pub steered_journal : IsJournal steered_ticks
 unfolding wind_of
-steered_journal = journal_by _ (record { fits = refl; wound = refl },
-    (record { fits = refl; wound = refl }, (record { fits = refl; wound = refl },
-    (record { fits = refl; wound = refl }, (record { fits = refl; wound = refl },
-    (record { fits = refl; wound = refl }, (record { fits = refl; wound = refl }, tt)))))))
+steered_journal = journal_by _ (
+  record { fits = refl; wound = refl },
+  (
+    record { fits = refl; wound = refl },
+    (
+      record { fits = refl; wound = refl },
+      (
+        record { fits = refl; wound = refl },
+        (
+          record { fits = refl; wound = refl },
+          (record { fits = refl; wound = refl }, (record { fits = refl; wound = refl }, tt)),
+        ),
+      ),
+    ),
+  ),
+)
 
 -- the ticks by their places
 pub at_one : slice_get ticks 1 ≡ Some set

@@ -76,7 +76,7 @@ journal-rises ticks is = IsNonDecreasingBy-from_all_adjacent (λ (h : Hands). h.
 pub follows-line : (h next : Hands) → Follows h next → next.how ≢ how.Reset → next.how ≢ how.Jump → number_of next.lerp ≡ moved_lerp h next.count
 follows-line h next follows not_reset not_jump =
     let line = line-goes_on h next.count (order_of next) (subst (λ t. t.how ≢ how.Reset) follows.wound not_reset)
-        (subst (λ t. t.how ≢ how.Jump) follows.wound not_jump) in
+    (subst (λ t. t.how ≢ how.Jump) follows.wound not_jump) in
     ap (λ (t : Hands). number_of t.lerp) follows.wound ∙ line
 
 -- but for resets the uptime goes on

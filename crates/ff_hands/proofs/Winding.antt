@@ -46,7 +46,7 @@ record IsTimeOf (e : Estimate) (count : ℕ) : Type 0 where
 timed : (e : Estimate) (count : ℕ) → IsSane e → IsTimeOf e count
 timed e count sane =
     let most : (count - e.update_ffcount) * e.period ≤ (count - e.update_ffcount) * 2 ^ 46 = mul-le-mul_left (count - e.update_ffcount)
-        (omega (arith, sane.period)) in
+    (omega (arith, sane.period)) in
     record { low = omega (arith, ints, sane.low); high = omega (arith, ints, sane.high); since = omega (arith, ints); not_before = omega (arith, ints) }
 
 -- the clocks moved on to a count
@@ -100,7 +100,7 @@ take_on-bounded h count e is on sane update newer =
     let time = number_of-of_grains (time_of e count) in
     let lerp = number_of-of_grains (moved_lerp h count) in
     let slope = sloped (int_lt (moved_lerp h count) (time_of e count)) (unsigned_abs (time_of e count -ℤ moved_lerp h count))
-        (e.update_ffcount - h.est.update_ffcount) e.period (omega arith) in
+    (e.update_ffcount - h.est.update_ffcount) e.period (omega arith) in
     record {
       count = on.most;
       update = update;
@@ -170,7 +170,7 @@ wind-bounded h count order.Plain is f = plain-bounded h count is (fits-on h coun
 wind-bounded h count (order.Take e) is f =
     let in_time = and_parts _ _ (fits-in_time h count (order.Take e) f) in
     take-bounded h count e is (fits-on h count (order.Take e) f) (sane-is e (fits-sane h count (order.Take e) f)) (leb-true _ _ in_time.0)
-        (ltb-true _ _ in_time.1)
+    (ltb-true _ _ in_time.1)
 wind-bounded h count (order.Reset e) is f =
     let on = fits-on h count (order.Reset e) f in
     reset-bounded count e on.most (sane-is e (fits-sane h count (order.Reset e) f)) (leb-true _ _ (fits-in_time h count (order.Reset e) f))

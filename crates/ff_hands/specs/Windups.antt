@@ -16,8 +16,17 @@ unsynced = record { unsync = true; warmup = false }
 
 -- the estimate that sets a clock to a time at a count: the nominal period, and no bounds
 abbrev pub reset_estimate : Bintime → ℕ → ℕ → Estimate
-reset_estimate at count freq = record { update_time = at; update_ffcount = count; leapsec_next = 0; period = nominal_period freq; errb_abs = 0;
-    errb_rate = 0; status = unsynced; leapsec_total = pos 0; leapsec = pos 0 }
+reset_estimate at count freq = record {
+  update_time = at;
+  update_ffcount = count;
+  leapsec_next = 0;
+  period = nominal_period freq;
+  errb_abs = 0;
+  errb_rate = 0;
+  status = unsynced;
+  leapsec_total = pos 0;
+  leapsec = pos 0;
+}
 
 abbrev pub start_time : Bintime
 start_time = record { sec = pos 0; frac = 0 }
@@ -32,8 +41,17 @@ cold = record {
   boot = start_time;
   kstatus = unsynced;
   how = how.Cold;
-  est = record { update_time = start_time; update_ffcount = 0; leapsec_next = 0; period = 0; errb_abs = 0; errb_rate = 0; status = unsynced;
-      leapsec_total = pos 0; leapsec = pos 0 };
+  est = record {
+    update_time = start_time;
+    update_ffcount = 0;
+    leapsec_next = 0;
+    period = 0;
+    errb_abs = 0;
+    errb_rate = 0;
+    status = unsynced;
+    leapsec_total = pos 0;
+    leapsec = pos 0;
+  };
 }
 
 -- a time after so many counts of a period

@@ -16,8 +16,17 @@ numbered unsync warmup est_unsync est_warmup how leap total = record {
   boot = time 7 8;
   kstatus = marks unsync warmup;
   how = how;
-  est = record { update_time = time 9 10; update_ffcount = 11; leapsec_next = 12; period = 13; errb_abs = 14; errb_rate = 15;
-      status = marks est_unsync est_warmup; leapsec_total = total; leapsec = leap };
+  est = record {
+    update_time = time 9 10;
+    update_ffcount = 11;
+    leapsec_next = 12;
+    period = 13;
+    errb_abs = 14;
+    errb_rate = 15;
+    status = marks est_unsync est_warmup;
+    leapsec_total = total;
+    leapsec = leap;
+  };
 }
 
 abbrev pub numbered_plainly : Hands

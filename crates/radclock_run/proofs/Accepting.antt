@@ -57,9 +57,9 @@ first-grows freq n xs ys = by_order _ (length xs) n
     let rest = n - length xs in
     let split : length xs + rest ≡ n = omega arith in
     let all : take n (xs ++ ys) ≡ take n xs ++ take rest ys = ap (λ n. take n (xs ++ ys)) (sym split) ∙ take-append-add xs ys rest
-        ∙ ap (λ (zs : List ItemLine). zs ++ take rest ys) (sym (take_all n xs short)) in
+    ∙ ap (λ (zs : List ItemLine). zs ++ take rest ys) (sym (take_all n xs short)) in
     let more : accepted_among freq [] (take n (xs ++ ys)) ≡ accepted_among freq (accepted_among freq [] (take n xs)) (take rest ys) = ap
-        (accepted_among freq []) all ∙ among-append freq [] (take n xs) (take rest ys) in
+    (accepted_among freq []) all ∙ among-append freq [] (take n xs) (take rest ys) in
     omega (arith, ap (λ (xs : List Item). length (counts_of xs)) more, among-grows freq (accepted_among freq [] (take n xs)) (take rest ys)))
     (λ long. omega (arith, ap (counted_among freq) (take-append-le n xs ys (omega arith))))
 
@@ -71,13 +71,13 @@ accepted-line head lines line headed is =
     let now = head_after no_head (lines ++ line ∷ []) in
     let here : now ≡ head_after head (line ∷ []) = head_after-append no_head lines (line ∷ []) ∙ ap (λ h. head_after h (line ∷ [])) (sym is) in
     let before : accepted_among now.freq [] (items_in lines) ≡ accepted_among (head_after no_head lines).freq [] (items_in lines) = elim
-        (head-stays lines (line ∷ []) headed) [
+    (head-stays lines (line ∷ []) headed) [
       | inl none ↦ ap (accepted_among now.freq []) none ∙ sym (ap (accepted_among (head_after no_head lines).freq []) none)
       | inr same ↦ ap (λ (h : Head). accepted_among h.freq [] (items_in lines)) same
     ] in
     ap (accepted_among now.freq []) (items_in-append lines (line ∷ [])) ∙ among-append now.freq [] (items_in lines) (items_in (line ∷ []))
-        ∙ ap (λ (xs : List Item). accepted_among now.freq xs (items_in (line ∷ []))) before
-        ∙ ap (λ (h : Head). accepted_among h.freq (accepted_among (head_after no_head lines).freq [] (items_in lines)) (items_in (line ∷ []))) here
+    ∙ ap (λ (xs : List Item). accepted_among now.freq xs (items_in (line ∷ []))) before
+    ∙ ap (λ (h : Head). accepted_among h.freq (accepted_among (head_after no_head lines).freq [] (items_in lines)) (items_in (line ∷ []))) here
 
 more-pass : (m n : ℕ) → ltb 16384 m ≡ true → m ≤ n → ltb 16384 n ≡ true
 more-pass m n pass more = grind (arith, nat_tests)
@@ -94,8 +94,8 @@ many-stays true lines more headed many = elim (head-stays lines more headed) [
       let old = (head_after no_head lines).freq in
       let grown = first-grows old 65536 (items_in lines) (items_in more) in
       let here : counted_among (head_after no_head (lines ++ more)).freq (take 65536 (items_in (lines ++ more))) ≡ counted_among old
-          (take 65536 (items_in lines ++ items_in more)) = ap (λ (h : Head). counted_among h.freq (take 65536 (items_in (lines ++ more)))) same
-          ∙ ap (λ xs. counted_among old (take 65536 xs)) (items_in-append lines more) in
+      (take 65536 (items_in lines ++ items_in more)) = ap (λ (h : Head). counted_among h.freq (take 65536 (items_in (lines ++ more)))) same
+      ∙ ap (λ xs. counted_among old (take 65536 xs)) (items_in-append lines more) in
       ap (ltb 16384) here ∙ more-pass _ _ many grown
 ]
 

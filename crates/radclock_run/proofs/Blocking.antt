@@ -36,26 +36,48 @@ module _ {K : Type 0} (written : K → Option (List ℕ)) (faults : K → ℕ) (
   goes-out : (sink sink' : K) (old mid : Gathering K) (lines : List (List ℕ)) (due ended result : Status)
       (answer last : Result (Unit {0}) Failed) → IsFresh sink old → Closes written faults (Short push) mid last sink'
       → OnOk last (result ≡ ended) → OnErr last (result ≡ status.WriteFault) → ended ≡ ends_with due answer
-          → ByLines (BlockGives written faults (Short push)) old lines answer mid → GoesOut sink lines due sink' result
+      → ByLines (BlockGives written faults (Short push)) old lines answer mid → GoesOut sink lines due sink' result
   unfolding untold stands
   goes-out sink sink' old mid lines due ended result (Ok o) last fresh closes ok err is pushes =
       let wrote : Wrote untold stands (BlockGives written faults (Short push)) old lines mid = record { pushes = pushes; bytes = tt; same = refl } in
-      let blocks = wrote-in-blocks written faults (Short push) untold stands sink old mid lines last sink' fresh wrote closes in
-      (last, record { blocks = blocks.blocks; bytes = blocks.bytes;
-          pushed = by-writes written faults (Short push) sink blocks.blocks last sink' blocks.writes }, ends-last due ended result last is ok err)
+      let blocks = wrote-in-blocks written faults (Short push) untold stands sink old mid lines last sink' fresh wrote closes in (
+        last,
+        record {
+          blocks = blocks.blocks;
+          bytes = blocks.bytes;
+          pushed = by-writes written faults (Short push) sink blocks.blocks last sink' blocks.writes;
+        },
+        ends-last due ended result last is ok err,
+      )
   goes-out sink sink' old mid lines due ended result (Err e) last fresh closes ok err is b =
       let broke : Broke untold stands (BlockGives written faults (Short push)) old lines
-          mid = record { front = b.front; failed = b.failed; rest = b.rest; cut = b.cut; mid = b.mid; pushes = b.pushes; last = b.last;
-          bytes = (0, omega arith, tt); later = omega arith; rose = omega arith } in
-      let blocks = broke-in-blocks written faults (Short push) untold stands sink old mid lines last sink' fresh broke closes in
-      (Err (record {}), record { blocks = blocks.blocks; bytes = blocks.bytes;
-          pushed = by-writes written faults (Short push) sink blocks.blocks (Err (record {})) sink' blocks.writes }, fails-last ended result last is ok err)
+      mid = record {
+        front = b.front;
+        failed = b.failed;
+        rest = b.rest;
+        cut = b.cut;
+        mid = b.mid;
+        pushes = b.pushes;
+        last = b.last;
+        bytes = (0, omega arith, tt);
+        later = omega arith;
+        rose = omega arith;
+      } in
+      let blocks = broke-in-blocks written faults (Short push) untold stands sink old mid lines last sink' fresh broke closes in (
+        Err (record {}),
+        record {
+          blocks = blocks.blocks;
+          bytes = blocks.bytes;
+          pushed = by-writes written faults (Short push) sink blocks.blocks (Err (record {})) sink' blocks.writes;
+        },
+        fails-last ended result last is ok err,
+      )
 
 pub run-in-blocks : {S K : Type 0} (pull : PullGives S) (written : K → Option (List ℕ)) (faults : K → ℕ) (push : PushGives K)
     (asked : Option Command) (source source' : S) (sink sink' : K) (old mid : Gathering K) (desk desk' : Desk) (ended result : Status)
     (last : Result (Unit {0}) Failed)
     → IsFresh sink old → Ran pull (ByLines (BlockGives written faults (Short push))) asked source source' old mid desk desk' ended
-        → Closes written faults (Short push) mid last sink' → OnOk last (result ≡ ended) → OnErr last (result ≡ status.WriteFault)
+    → Closes written faults (Short push) mid last sink' → OnOk last (result ≡ ended) → OnErr last (result ≡ status.WriteFault)
     → Ran pull (ByBlocks push) asked source source' sink sink' desk desk' result
 run-in-blocks pull written faults push asked source source' sink sink' old mid desk desk' ended result last fresh ran closes ok err =
     let out = goes-out written faults push sink sink' old mid _ ran.due ended result ran.answer last fresh closes ok err ran.ended ran.wrote in

@@ -47,14 +47,22 @@ accepted-count freq accepted (x ∷ xs) =
 
 -- there are as many estimates as stamps
 pub many-estimates : (freq : ℕ) (items : List Item) → length (fulls_of (events_of freq items)) ≡ length (stamps_of items)
-many-estimates freq items = omega (arith, length-map (fulls_of (events_of freq items)) without_leaps, ap length (fold-told freq items),
-    length-fold_of freq (stamps_of items))
+many-estimates freq items = omega (
+  arith,
+  length-map (fulls_of (events_of freq items)) without_leaps,
+  ap length (fold-told freq items),
+  length-fold_of freq (stamps_of items),
+)
 
 -- and as many as stamps of a file are accepted
 pub fulls-count : (freq : ℕ) (items : List ItemLine) (events : List Event) → events ≡ events_of freq (accepted_among freq [] items)
     → length (fulls_of events) ≡ count_by is_taken (outcomes freq [] items)
-fulls-count freq items events is = omega (arith, ap (λ (es : List Event). length (fulls_of es)) is,
-    many-estimates freq (accepted_among freq [] items), accepted-count freq [] items)
+fulls-count freq items events is = omega (
+  arith,
+  ap (λ (es : List Event). length (fulls_of es)) is,
+  many-estimates freq (accepted_among freq [] items),
+  accepted-count freq [] items,
+)
 
 estimates-are : (events : List Event) → count_by is_estimate events ≡ length (fulls_of events)
 estimates-are [] = refl

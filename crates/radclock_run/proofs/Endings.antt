@@ -88,23 +88,23 @@ module _ {S : Type 0} (left : S → Option (List ℕ)) (faults : S → ℕ) (pul
   took-by size old text new (pulls.one_more front piece n mid end before some last) =
       subst (λ (bs : List ℕ). Took left faults pull size old (front ++ bs) new) (sym last.front)
       (took_more left faults pull size old mid new front last.room last.filled n (consumes mid new last.room last.filled (Ok n) last.gives)
-          (cause mid new last.room last.filled (Ok n) last.gives) (took-by size old front mid before) some last.sized last.gives)
+      (cause mid new last.room last.filled (Ok n) last.gives) (took-by size old front mid before) some last.sized last.gives)
 
   piece-bytes : (old mid new : S) (front piece : List ℕ) (answer : Result ℕ Failed) → Consumes (left old) (left mid) front
       → Pulled pull 4096 mid answer piece new → Consumes (left old) (left new) (front ++ piece)
   piece-bytes old mid new front piece (Ok n) before last =
       subst (λ (bs : List ℕ). Consumes (left old) (left new) (front ++ bs)) (sym last.front)
-          (Consumes-trans (left old) (left mid) (left new) front (take n last.filled) before (consumes mid new last.room last.filled (Ok n) last.gives).0)
+      (Consumes-trans (left old) (left mid) (left new) front (take n last.filled) before (consumes mid new last.room last.filled (Ok n) last.gives).0)
   piece-bytes old mid new front piece (Err e) before last =
       subst (Consumes (left old) (left new)) (sym (append-nil front) ∙ ap (λ (bs : List ℕ). front ++ bs) (sym last.front))
-          (Consumes-kept (left old) (left mid) (left new) front before (consumes mid new last.room last.filled (Err e) last.gives))
+      (Consumes-kept (left old) (left mid) (left new) front before (consumes mid new last.room last.filled (Err e) last.gives))
 
   -- the bytes of a text were taken from what was left
   pub read-bytes : (limited : Bool) (old : S) (text : List ℕ) (s : Option Stop) (new : S) → ReadsTo pull limited old text s new
       → Consumes (left old) (left new) text
   read-bytes limited old text s new reads =
       subst (Consumes (left old) (left new)) (sym reads.whole) (piece-bytes old reads.mid new reads.front reads.piece reads.answer
-          (took-by 4096 old reads.front reads.mid reads.pulls).bytes reads.last)
+      (took-by 4096 old reads.front reads.mid reads.pulls).bytes reads.last)
 
   -- at the end nothing is left
   pub end-bytes : (mid new : S) (piece : List ℕ) (answer : Result ℕ Failed) (last : Pulled pull 4096 mid answer piece new) → length last.filled
@@ -140,7 +140,7 @@ module _ {S : Type 0} (left : S → Option (List ℕ)) (faults : S → ℕ) (pul
       → left old ≡ Some all → WasFree (faults old) (faults new) → (status_by s ≡ status_by (stop_of_file limited all)) ⊎ (status_by s ≡ status.NoMemory)
   read-stops limited old text s new all reads told free =
       stop-by limited old reads.mid new text reads.piece all reads.answer s told free (read-bytes limited old text s new reads)
-          (took-by 4096 old reads.front reads.mid reads.pulls).same reads.last reads.sized reads.stops
+      (took-by 4096 old reads.front reads.mid reads.pulls).same reads.last reads.sized reads.stops
 
 module _ {K : Type 0} (written : K → Option (List ℕ)) (faults : K → ℕ) (push : PushGives K)
     (appends : EachWrite push (λ old new piece r. PushAppends (written old) (written new) r piece))
@@ -167,7 +167,7 @@ module _ {K : Type 0} (written : K → Option (List ℕ)) (faults : K → ℕ) (
   pub blocks-append : (old : K) (lines : List (List ℕ)) (new : K) → ByBlocks push old lines (Ok tt) new → Appends (written old) (written new) (concat lines)
   blocks-append old lines new out =
       subst (Appends (written old) (written new)) out.bytes (lines-append written faults (Short push)
-          (λ old new piece r gives. appends old new piece r gives.1) (λ old new piece r gives. cause old new piece r gives.1) old out.blocks new out.pushed)
+      (λ old new piece r gives. appends old new piece r gives.1) (λ old new piece r gives. cause old new piece r gives.1) old out.blocks new out.pushed)
 
   pub blocks-rose : (old : K) (lines : List (List ℕ)) (new : K) → ByBlocks push old lines (Err (record {})) new → Rose (faults old) (faults new)
   blocks-rose old lines new out = lines-rose written faults (Short push) (λ old new piece r gives. appends old new piece r gives.1)
@@ -177,15 +177,15 @@ module _ {S K : Type 0} (left : S → Option (List ℕ)) (pull_faults : S → �
     (consumes : EachRead pull (λ old new r room. ReadConsumes (left old) (left new) r room))
     (reads_cause : EachRead pull (λ old new r room. HasCause (pull_faults old) (pull_faults new) r))
     (written : K → Option (List ℕ)) (push_faults : K → ℕ) (writes : Writing K)
-        (appends : (old : K) (lines : List (List ℕ)) (new : K) → writes old lines (Ok tt) new → Appends (written old) (written new) (concat lines))
-        (rose : (old : K) (lines : List (List ℕ)) (new : K) → writes old lines (Err (record {})) new → Rose (push_faults old) (push_faults new)) where
+    (appends : (old : K) (lines : List (List ℕ)) (new : K) → writes old lines (Ok tt) new → Appends (written old) (written new) (concat lines))
+    (rose : (old : K) (lines : List (List ℕ)) (new : K) → writes old lines (Err (record {})) new → Rose (push_faults old) (push_faults new)) where
   -- the lines of a done run are appended
   done-appends : (asked : Option Command) (text : List ℕ) (told : Option Deviation) (pen : PenShows) (sink sink' : K) (due : Status)
       (answer : Result (Unit {0}) Failed) → writes sink (lines_due asked text told pen due) answer sink' → answer ≡ Ok tt → due ≡ status.Done
       → Appends (written sink) (written sink') (concat (done_lines asked text told pen))
   done-appends asked text told pen sink sink' due answer wrote all is =
       appends sink (done_lines asked text told pen) sink' (subst (λ a. writes sink (done_lines asked text told pen) a sink') all
-          (subst (λ due. writes sink (lines_due asked text told pen due) answer sink') is wrote))
+      (subst (λ due. writes sink (lines_due asked text told pen due) answer sink') is wrote))
 
   -- a done report
   report-done : (r : Report) (source source' : S) (sink sink' : K) (desk desk' : Desk) (result : Status) → Ran pull writes (Some (command.Report r))
@@ -316,7 +316,7 @@ module _ {S K : Type 0} (left : S → Option (List ℕ)) (pull_faults : S → �
       desk' result → (result ≡ status.Usage) ⊎ ((result ≡ status.WriteFault) ⊎ (result ≡ status.NoMemory))
   usage-by source source' sink sink' desk desk' result ran =
       let split : (answer : Result (Unit {0}) Failed) → result ≡ ends_with ran.due answer → (result ≡ status.Usage)
-          ⊎ ((result ≡ status.WriteFault) ⊎ (result ≡ status.NoMemory)) =
+      ⊎ ((result ≡ status.WriteFault) ⊎ (result ≡ status.NoMemory)) =
       elim [
         | Ok o ↦ λ e. elim ran.status_is [ inl due ↦ inl (e ∙ due) | inr short ↦ inr (inr (e ∙ short.0)) ]
         | Err x ↦ λ e. inr (inl e)

@@ -59,8 +59,10 @@ gathered-refused freq all s k events why are stands is = record {
 answered : (k : Kept) (events : List Event) (freq : ℕ) (all : List Item) (x : Item) (r : Result (Unit {0}) Refused) → r ≡ accept_item freq all x
     → StandsFor k freq (accepted_with all x r) → AreOf events freq (accepted_with all x r) → IsGathered k events freq all x (is_ok r)
 answered k events freq all x r e stands are = record {
-  gathered = record { stands = subst (λ r. StandsFor k freq (accepted_with all x r)) e stands;
-      are = subst (λ r. AreOf events freq (accepted_with all x r)) e are };
+  gathered = record {
+    stands = subst (λ r. StandsFor k freq (accepted_with all x r)) e stands;
+    are = subst (λ r. AreOf events freq (accepted_with all x r)) e are;
+  };
   answer = ap is_ok e;
 }
 

@@ -34,7 +34,7 @@ gathers-more : (limited : Bool) (old new : StampFile) (was is : Quota) (lines : 
     → Keeps old new was is line → IsHeaded (lines ++ line ∷ []) → IsLineInRange line → Gathers limited new is (lines ++ line ∷ [])
 gathers-more limited old new was is lines line before keeps headed range =
     let items : new.items.items ≡ items_in (lines ++ line ∷ []) = keeps.items ∙ ap (λ (xs : List ItemLine). xs ++ items_in (line ∷ [])) before.items
-        ∙ sym (items_in-append lines (line ∷ [])) in
+    ∙ sym (items_in-append lines (line ∷ [])) in
     record {
       head = keeps.head ∙ ap (λ h. head_after h (line ∷ [])) before.head ∙ sym (head_after-append no_head lines (line ∷ []));
       items = items;
@@ -50,8 +50,12 @@ pub reads-line : (limited : Bool) (k k' : Kept) (old new : StampFile) (was is : 
     text → StandsFor k' more → fault_so_far more ≡ None → given more ≡ given text ++ line ∷ [] → Keeps old new was is line → IsLineInRange line
     → Reads limited k' new is more
 reads-line limited k k' old new was is text more line reads stands sound gave keeps range =
-    record { stands = stands; sound = sound; gathers = subst (Gathers limited new is) (sym gave)
-    (gathers-more limited old new was is (given text) line reads.gathers keeps (subst IsHeaded gave (headed-given more)) range) }
+    record {
+      stands = stands;
+      sound = sound;
+      gathers = subst (Gathers limited new is) (sym gave)
+          (gathers-more limited old new was is (given text) line reads.gathers keeps (subst IsHeaded gave (headed-given more)) range);
+    }
 
 -- the end gives a line that is kept
 pub gathers-last : (limited : Bool) (old new : StampFile) (was is : Quota) (text : List ℕ) (line : Line) → Gathers limited old was (given text)
@@ -77,11 +81,11 @@ pub not-kept : (s : Stop) (file : StampFile) (quota : Quota) (line : Line) (x : 
     → head_after file.head (line ∷ []) ≡ file.head → HasNoRoom s file ⊎ HasRoomAlone s file quota x.item → IsFull s file line ⊎ HasNoQuota s file quota line
 not-kept s file quota line x one same (inl none) =
     let more : length (file.items.items ++ items_in (line ∷ [])) ≡ length (file.items.items ++ x ∷ []) = ap
-        (λ (xs : List ItemLine). length (file.items.items ++ xs)) one in
+    (λ (xs : List ItemLine). length (file.items.items ++ xs)) one in
     inl (record { limit = none.limit; full = omega (arith, none.full, more, length_push file.items.items x) })
 not-kept s file quota line x one same (inr alone) =
     let more : length (file.items.items ++ items_in (line ∷ [])) ≡ length (file.items.items ++ x ∷ []) = ap
-        (λ (xs : List ItemLine). length (file.items.items ++ xs)) one in
+    (λ (xs : List ItemLine). length (file.items.items ++ xs)) one in
     inr (record {
       limit = alone.spent.limit;
       limited = alone.spent.limited;
@@ -146,10 +150,17 @@ file-whole limited file quota text short sound is =
       sound = stop_of_file-short limited text short ∙ gathers-stop limited file quota lines (fault_of_file text) is ∙ ap (option_map stop.Fault) sound;
       head = is.head;
       items = is.items;
-      ranged = record { low = omega (arith, freq.low, same); high = omega (arith, freq.high, same);
-          timed = subst (All (λ x. IsItemInRange x.item)) (sym is.items) (items-timed lines is.ranged) };
-      few = λ on. omega (arith, (is.counts on).few, ap (λ f. counted_among f file.items.items) same
-          ∙ ap (counted_among (head_after no_head lines).freq) is.items);
+      ranged = record {
+        low = omega (arith, freq.low, same);
+        high = omega (arith, freq.high, same);
+        timed = subst (All (λ x. IsItemInRange x.item)) (sym is.items) (items-timed lines is.ranged);
+      };
+      few = λ on. omega (
+        arith,
+        (is.counts on).few,
+        ap (λ f. counted_among f file.items.items) same
+            ∙ ap (counted_among (head_after no_head lines).freq) is.items,
+      );
     }
 
 -- from one property of an input's stop to another

@@ -64,8 +64,8 @@ later-gives second n line h =
     let one : eqb n 1 ≡ false = grind (arith, nat_tests) in
     let two : eqb n 2 ≡ false = grind (arith, nat_tests) in
     let entry : short_says second n line ≡ entry_says second n text = ap
-        (λ t. cond t (version_says text) (cond (eqb n 2) (freq_says second text) (entry_says second n text))) one
-        ∙ ap (λ t. cond t (freq_says second text) (entry_says second n text)) two in
+    (λ t. cond t (version_says text) (cond (eqb n 2) (freq_says second text) (entry_says second n text))) one
+    ∙ ap (λ t. cond t (freq_says second text) (entry_says second n text)) two in
     either GivesItem (ltb 255 (length line)) (Err why.LongLine) (short_says second n line) tt (subst GivesItem (sym entry) (entry-gives second n text))
 
 -- line 1

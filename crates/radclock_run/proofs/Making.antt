@@ -52,7 +52,7 @@ made-next number count n s k events is answer next =
     let all = first_stamps number count n in
     let grown : map item.Stamp all ++ item.Stamp s ∷ [] ≡ map item.Stamp (all ++ s ∷ []) = sym (map-append item.Stamp all (s ∷ [])) in
     subst (Gathered k events frequency) (ap (accepted_with (map item.Stamp all) (item.Stamp s)) answer ∙ grown
-        ∙ ap (λ (s : Stamp). map item.Stamp (all ++ s ∷ [])) is ∙ ap (λ (ss : List Stamp). map item.Stamp ss) (sym (stamps-more number count n))) next
+    ∙ ap (λ (s : Stamp). map item.Stamp (all ++ s ∷ [])) is ∙ ap (λ (ss : List Stamp). map item.Stamp ss) (sym (stamps-more number count n))) next
 
 no-set : (seen : Seen) (ss : List Stamp) → seen.set ≡ None → (fold seen_with seen (map item.Stamp ss)).set ≡ None
 no-set seen [] e = e
@@ -120,7 +120,12 @@ counts-back (s ∷ ss) = ap (λ (n : ℕ). suc n) (counts-back ss)
 pub has-ticks : (a : Asked) (pen : PenShows) → 1 ≤ a.count → IsReplayed run_options frequency (run_items a) pen → 2 < length pen.journal
 has-ticks a pen some is =
     let events : List Event = events_of frequency (run_items a) in
-    let many : length events ≡ a.count = omega (arith, length-map events count_of_event, ap length (counts-are frequency (run_items a)),
-        counts-back (run_stamps a), made_stamps-len a.number a.count) in
+    let many : length events ≡ a.count = omega (
+      arith,
+      length-map events count_of_event,
+      ap length (counts-are frequency (run_items a)),
+      counts-back (run_stamps a),
+      made_stamps-len a.number a.count,
+    ) in
     let steps : length (plan_of frequency events 4) ≡ 1 + length events + 4 * (length events - 1) = steps_len frequency events 4 in
     omega (arith, is.journal.many, steps, many)

@@ -45,8 +45,8 @@ more-stamps (item.Leap count leap) old new n e is = omega arith
 pub stands-next : {T : Type 0} (stands : T → Head → List Item → Type 0) (telling telling' : T) (head : Head) (old new : Tally) (items : List Item)
     (x : Item) → StandsAt stands telling head old items → Ok tt ≡ test_of head.freq old.past x
     → new.past ≡ seen_with old.past x → new.accepted ≡ old.accepted + cond {A = ℕ} (is_stamp x && is_ok {T = Unit {0}} {E = Refused} (Ok tt)) 1 0
-        → (accept_item head.freq items x ≡ Ok tt → stands telling' head (items ++ x ∷ []))
-        → StandsAt stands telling' head new (accepted_with items x (accept_item head.freq items x))
+    → (accept_item head.freq items x ≡ Ok tt → stands telling' head (items ++ x ∷ []))
+    → StandsAt stands telling' head new (accepted_with items x (accept_item head.freq items x))
 stands-next stands telling telling' head old new items x at test past count stood =
     let answer : accept_item head.freq items x ≡ Ok tt = ap (λ seen. test_of head.freq seen x) (sym at.seen) ∙ sym test in
     subst (StandsAt stands telling' head new) (sym (ap (accepted_with items x) answer)) (record {

@@ -11,7 +11,7 @@ pub front-stops : (limited : Bool) (text piece : List ℕ) (n : ℕ) (s : Stop) 
     → stop_within limited (text ++ piece) ≡ Some s
 front-stops limited text piece n s found =
     ap (stop_within limited) (sym (append_assoc text (take n piece) (drop n piece) ∙ ap (λ (r : List ℕ). text ++ r) (take-append-drop n piece)))
-        ∙ stop_within-stays limited (text ++ take n piece) (drop n piece) s found
+    ∙ stop_within-stays limited (text ++ take n piece) (drop n piece) s found
 
 -- the rest of a piece, as it is passed
 rest_of : (piece : List ℕ) (i : ℕ) → take (length piece - i) (drop i piece) ≡ drop i piece
@@ -30,5 +30,10 @@ all_read text piece i = append_assoc text (take i piece) _ ∙ ap (λ (bs : List
 -- they are as long as the text and the piece
 pub as_long : (text piece : List ℕ) (i : ℕ) → i ≤ length piece → length (text ++ take i piece)
     + length (take (length piece - i) (drop i piece)) ≡ length text + length piece
-as_long text piece i h = omega (arith, length-append text (take i piece), length-take i piece, length-take (length piece - i) (drop i piece),
-    length-drop i piece)
+as_long text piece i h = omega (
+  arith,
+  length-append text (take i piece),
+  length-take i piece,
+  length-take (length piece - i) (drop i piece),
+  length-drop i piece,
+)

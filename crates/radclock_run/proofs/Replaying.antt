@@ -70,8 +70,8 @@ module _ (freq : ℕ) (options : Options) (all : List Item) (plan : Plan) (befor
   play =
       let p = ready.plan_is in
       subst (λ ss. Played freq options ss before after old new) p.steps
-          (subst (λ o. Played freq o plan.steps.items before after old new) p.options_is
-          (subst (λ n. Played n plan.options plan.steps.items before after old new) p.freq_is played))
+      (subst (λ o. Played freq o plan.steps.items before after old new) p.options_is
+      (subst (λ n. Played n plan.options plan.steps.items before after old new) p.freq_is played))
 
   all-kept : new.kept ≡ play.kept
   all-kept = play.pen ∙ ap (λ (ks : List Kept). ks ++ play.kept) ready.kept
@@ -114,8 +114,8 @@ module _ (freq : ℕ) (options : Options) (all : List Item) (plan : Plan) (befor
   pub replay-printed : options.readers ≤ 16 → options.reads ≤ 16384 → ArePrinted options new after
   replay-printed few_readers few_reads =
       let same : entries_of after ≡ logs_of new = same-map (λ (l : ReadLog). l.entries.items) (λ (k : Kept). map entry_of k.entries) after new.kept
-          (omega (arith, ap length all-kept, play.many, play.same))
-          (λ i l k at there. (play.each i l k at (ap (λ (ks : List Kept). slice_get ks i) (sym all-kept) ∙ there)).entries) in
+      (omega (arith, ap length all-kept, play.many, play.same))
+      (λ i l k at there. (play.each i l k at (ap (λ (ks : List Kept). slice_get ks i) (sym all-kept) ∙ there)).entries) in
       let each : (i : ℕ) (es : List Entry) → slice_get (entries_of after) i ≡ Some es → length es ≡ options.reads = λ i es at. (
       let there = ap (λ (ls : List (List Entry)). slice_get ls i) (sym same) ∙ at in
       let m = mapped (λ (k : Kept). map entry_of k.entries) new.kept i es there in
@@ -148,7 +148,7 @@ as-many old mid passes next spare seen n fresh reserved made = ap length (first-
 pub ready-for : (freq : ℕ) (options : Options) (all : List Item) (plan : Plan) (logs : List ReadLog) (old mid new : PenShows) (passes next : List _)
     (spare made : ℕ) → IsFresh old passes → old.kept ≡ [] → IsPlanFor freq options all plan → length plan.steps.items ≤ mid.spare
     → mid ≡ record old { spare = spare } → new ≡ record mid { made = made } → next ≡ passes
-        ++ new_passes mid.table mid.made (length mid.journal) plan.options.readers → AreOpened plan.options.reads next logs
+    ++ new_passes mid.table mid.made (length mid.journal) plan.options.readers → AreOpened plan.options.reads next logs
     → IsReadyFor freq options all plan logs new
 ready-for freq options all plan logs old mid new passes next spare made fresh unused is room reserved grown behind opened =
     let readers = plan.options.readers in

@@ -123,7 +123,7 @@ module _ {S K : Type 0} (pull : PullGives S) (written : K → Option (List ℕ))
   short-as : (asked : Option Command) (s : Option Stop) (source : S) (sink sink' : K) (desk : Desk) (result : Status) → IsDue asked s status.NoMemory
       → IsRead pull asked source [] s source → HoldsShort asked desk desk
       → EndsWith written faults push sink (fault_text fault.Memory ∷ []) status.NoMemory result sink'
-          → Ran pull (ByLines push) asked source source sink sink' desk desk result
+      → Ran pull (ByLines push) asked source source sink sink' desk desk result
   short-as asked s source sink sink' desk result due read holds ends =
       let out = by-lines written faults push sink _ status.NoMemory result sink' ends in
       record {
@@ -198,7 +198,7 @@ module _ {S K : Type 0} (pull : PullGives S) (written : K → Option (List ℕ))
   pub run-finished : (r : Report) (text : List ℕ) (source source' : S) (sink sink' : K) (desk desk' : Desk) (result : Status) → desk.pen.journal
       ≡ cold ∷ [] → ReadsTo pull (takes_few r) source text None source' → stop_of_file (takes_few r) text ≡ None
       → Finishes written faults push r (head_of_file text) (items_of_file text) sink desk result sink' desk'
-          → Ran pull (ByLines push) (Some (command.Report r)) source source' sink sink' desk desk' result
+      → Ran pull (ByLines push) (Some (command.Report r)) source source' sink sink' desk desk' result
   run-finished r text source source' sink sink' desk desk' result fresh reads none ends =
       elim ends [
         | inl done ↦
@@ -239,7 +239,7 @@ module _ {S K : Type 0} (pull : PullGives S) (written : K → Option (List ℕ))
   pub run-stopped : (r : Report) (s : Stop) (text : List ℕ) (source source' : S) (sink sink' : K) (desk : Desk) (result : Status) → desk.pen.journal
       ≡ cold ∷ [] → ReadsTo pull (takes_few r) source text (Some s) source' → IsTaken s text
       → EndsWith written faults push sink (fault_text (fault_of s) ∷ []) (status_of s) result sink'
-          → Ran pull (ByLines push) (Some (command.Report r)) source source' sink sink' desk desk result
+      → Ran pull (ByLines push) (Some (command.Report r)) source source' sink sink' desk desk result
   run-stopped r s text source source' sink sink' desk result fresh reads taken ends =
       let out = by-lines written faults push sink _ (status_of s) result sink' ends in
       record {

@@ -46,8 +46,12 @@ is-sound limited text none =
     elim [
       | true ↦ λ many. let found = accepted-stop limited lines fault many in absurd (cc)
       | false ↦ λ tested. by_order (IsSound limited text) (length (items_in lines)) 65536
-          (λ few. record { sound = no-fault fault (sym (few-stop limited lines fault tested few) ∙ here); few_bytes = short; few_items = few;
-              few_accepted = are-few limited lines few tested })
+          (λ few. record {
+            sound = no-fault fault (sym (few-stop limited lines fault tested few) ∙ here);
+            few_bytes = short;
+            few_items = few;
+            few_accepted = are-few limited lines few tested;
+          })
           (λ many. let found = many-stop limited lines fault tested many in absurd (cc))
     ] in
     split (accepts_many limited lines) refl)

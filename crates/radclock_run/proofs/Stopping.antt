@@ -36,7 +36,7 @@ pub many-stop : (limited : Bool) (lines : List Line) (fault : Option LineFault) 
 many-stop limited lines fault few many =
     let t : ltb 65536 (length (items_in lines)) ≡ true = grind (arith, nat_tests) in
     ap (λ t. cond t (Some (stop.Large limit.Accepted)) (cond (ltb 65536 (length (items_in lines))) (Some (stop.Large limit.Stamps))
-        (option_map stop.Fault fault))) few ∙ ap (λ t. cond t (Some (stop.Large limit.Stamps)) (option_map stop.Fault fault)) t
+    (option_map stop.Fault fault))) few ∙ ap (λ t. cond t (Some (stop.Large limit.Stamps)) (option_map stop.Fault fault)) t
 
 -- no more items than are taken
 pub few-stop : (limited : Bool) (lines : List Line) (fault : Option LineFault) → accepts_many limited lines ≡ false → length (items_in lines) ≤ 65536
@@ -44,7 +44,7 @@ pub few-stop : (limited : Bool) (lines : List Line) (fault : Option LineFault) �
 few-stop limited lines fault few short =
     let t : ltb 65536 (length (items_in lines)) ≡ false = grind (arith, nat_tests) in
     ap (λ t. cond t (Some (stop.Large limit.Accepted)) (cond (ltb 65536 (length (items_in lines))) (Some (stop.Large limit.Stamps))
-        (option_map stop.Fault fault))) few ∙ ap (λ t. cond t (Some (stop.Large limit.Stamps)) (option_map stop.Fault fault)) t
+    (option_map stop.Fault fault))) few ∙ ap (λ t. cond t (Some (stop.Large limit.Stamps)) (option_map stop.Fault fault)) t
 
 -- what is kept of lines passes no limit
 pub gathers-few : (limited : Bool) (file : StampFile) (quota : Quota) (lines : List Line) → Gathers limited file quota lines
@@ -64,7 +64,7 @@ record Passes (limited : Bool) (lines : List Line) (s : Stop) : Type 0 where
 stops-many : (limited : Bool) (lines : List Line) (s : Stop) → stop_by limited lines None ≡ Some s → Passes limited lines s
 stops-many limited lines s h =
     let split : (a b : Bool) → accepts_many limited lines ≡ a → ltb 65536 (length (items_in lines)) ≡ b
-        → cond a (Some (stop.Large limit.Accepted)) (cond b (Some (stop.Large limit.Stamps)) None) ≡ Some s → Passes limited lines s =
+    → cond a (Some (stop.Large limit.Accepted)) (cond b (Some (stop.Large limit.Stamps)) None) ≡ Some s → Passes limited lines s =
     elim [
       | true ↦ λ b ea eb g. record { is = inl (ea, cc) }
       | false ↦ elim [ true ↦ λ ea eb g. record { is = inr (ea, grind (arith, nat_tests), cc) } | false ↦ λ ea eb g. absurd (cc) ]
@@ -86,7 +86,7 @@ stop_by-stays : (limited : Bool) (lines lines' more : List Line) (fault fault' :
     → stop_by limited lines' fault' ≡ Some s
 stop_by-stays limited lines lines' more fault fault' s e headed keeps h =
     let go : (fault : Option LineFault) → ((f : LineFault) → fault ≡ Some f → (lines' ≡ lines) × (fault' ≡ Some f)) → stop_by limited lines fault
-        ≡ Some s → stop_by limited lines' fault' ≡ Some s =
+    ≡ Some s → stop_by limited lines' fault' ≡ Some s =
     elim [
       | None ↦ λ k g. ap (λ ls. stop_by limited ls fault') e ∙ passes-stays limited lines more fault' s (subst IsHeaded e headed) (stops-many limited lines s g)
       | Some f ↦ λ k g. let kept = k f refl in ap (λ ls. stop_by limited ls fault') kept.0 ∙ ap (stop_by limited lines) kept.1 ∙ g
@@ -98,7 +98,7 @@ unfolding stop_within
 stop_within-stays limited text more s h =
     let grown = given-more text more in
     stop_by-stays limited (given text) (given (text ++ more)) grown.0 (fault_so_far text) (fault_so_far (text ++ more)) s grown.1
-        (headed-given (text ++ more)) (λ f found. (given-frozen text more f found, fault-stays-all text more f found)) h
+    (headed-given (text ++ more)) (λ f found. (given-frozen text more f found, fault-stays-all text more f found)) h
 
 -- the same at the end of a whole input
 stop_by-end : (limited : Bool) (text : List ℕ) (s : Stop) → stop_within limited text ≡ Some s
@@ -107,7 +107,7 @@ unfolding stop_within
 stop_by-end limited text s h =
     let grown = given-end text in
     stop_by-stays limited (given text) (given_of_file text) grown.0 (fault_so_far text) (fault_of_file text) s grown.1 (headed-file text)
-        (λ f found. (given-end-faulty text f (end-faulty text f found), end-faulty text f found)) h
+    (λ f found. (given-end-faulty text f (end-faulty text f found), end-faulty text f found)) h
 
 first_stop-none : (a : Option Stop) → first_stop a None ≡ a
 first_stop-none None = refl
@@ -119,7 +119,7 @@ unfolding stop_so_far
 stop_so_far-short limited text short =
     let t : ltb 16777216 (length text) ≡ false = grind (arith, nat_tests) in
     ap (λ (bs : List ℕ). first_stop (stop_within limited bs) (bytes_stop text)) (take_all 16777216 text short)
-        ∙ ap (λ t. first_stop (stop_within limited text) (cond t (Some (stop.Large limit.Bytes)) None)) t ∙ first_stop-none (stop_within limited text)
+    ∙ ap (λ t. first_stop (stop_within limited text) (cond t (Some (stop.Large limit.Bytes)) None)) t ∙ first_stop-none (stop_within limited text)
 
 pub stop_of_file-short : (limited : Bool) (text : List ℕ) → length text ≤ 16777216
     → stop_of_file limited text ≡ stop_by limited (given_of_file text) (fault_of_file text)
@@ -150,13 +150,13 @@ stays-short limited text more s short long h =
     let read : take 16777216 (text ++ more) ≡ text ++ take rest more = ap (λ n. take n (text ++ more)) (sym split) ∙ take-append-add text more rest in
     let within = stop_within-stays limited text (take rest more) s (sym (stop_so_far-short limited text short) ∙ h) in
     stop_so_far-long limited (text ++ more) long ∙ ap (λ (bs : List ℕ). first_stop (stop_within limited bs) (Some (stop.Large limit.Bytes))) read
-        ∙ ap (λ o. first_stop o (Some (stop.Large limit.Bytes))) within
+    ∙ ap (λ o. first_stop o (Some (stop.Large limit.Bytes))) within
 
 stays-long : (limited : Bool) (text more : List ℕ) → 16777216 < length text → stop_so_far limited (text ++ more) ≡ stop_so_far limited text
 stays-long limited text more long =
     stop_so_far-long limited (text ++ more) (omega (arith, length-append text more))
-        ∙ ap (λ (bs : List ℕ). first_stop (stop_within limited bs) (Some (stop.Large limit.Bytes))) (take-append-le 16777216 text more (omega arith))
-        ∙ sym (stop_so_far-long limited text long)
+    ∙ ap (λ (bs : List ℕ). first_stop (stop_within limited bs) (Some (stop.Large limit.Bytes))) (take-append-le 16777216 text more (omega arith))
+    ∙ sym (stop_so_far-long limited text long)
 
 pub stop_so_far-stays : (limited : Bool) (text more : List ℕ) (s : Stop) → stop_so_far limited text ≡ Some s → stop_so_far limited (text ++ more) ≡ Some s
 stop_so_far-stays limited text more s h =
@@ -181,14 +181,14 @@ pub fault-stops : (limited : Bool) (file : StampFile) (quota : Quota) (text more
 unfolding stop_within
 fault-stops limited file quota text more f is same found =
     ap (λ ls. stop_by limited ls (fault_so_far more)) same ∙ gathers-stop limited file quota (given text) (fault_so_far more) is
-        ∙ ap (option_map stop.Fault) found
+    ∙ ap (option_map stop.Fault) found
 
 -- so does the end
 pub end-stops : (limited : Bool) (file : StampFile) (quota : Quota) (text : List ℕ) (f : LineFault) → length text ≤ 16777216
     → Gathers limited file quota (given text) → fault_of_file text ≡ Some f → stop_of_file limited text ≡ Some (stop.Fault f)
 end-stops limited file quota text f short is found =
     stop_of_file-short limited text short ∙ ap (λ ls. stop_by limited ls (fault_of_file text)) (given-end-faulty text f found)
-        ∙ gathers-stop limited file quota (given text) (fault_of_file text) is ∙ ap (option_map stop.Fault) found
+    ∙ gathers-stop limited file quota (given text) (fault_of_file text) is ∙ ap (option_map stop.Fault) found
 
 one-item : (line : Line) → length (items_in (line ∷ [])) ≤ 1
 one-item (gives.Head h) = omega arith
@@ -201,22 +201,22 @@ full-stops : (limited : Bool) (file : StampFile) (quota : Quota) (lines : List L
     limited file quota lines → IsHeaded (lines ++ line ∷ []) → IsFull s file line → stop_by limited (lines ++ line ∷ []) fault ≡ Some s
 full-stops limited file quota lines line fault s is headed full =
     let all : items_in (lines ++ line ∷ []) ≡ file.items.items ++ items_in (line ∷ []) = items_in-append lines (line ∷ [])
-        ∙ ap (λ (xs : List ItemLine). xs ++ items_in (line ∷ [])) (sym is.items) in
+    ∙ ap (λ (xs : List ItemLine). xs ++ items_in (line ∷ [])) (sym is.items) in
     let before = full-tested limited lines (line ∷ []) headed (omega
-        (arith, full.full, one-item line, ap length is.items, length-append file.items.items (items_in (line ∷ []))))
-        ∙ gathers-few limited file quota lines is in
+    (arith, full.full, one-item line, ap length is.items, length-append file.items.items (items_in (line ∷ []))))
+    ∙ gathers-few limited file quota lines is in
     many-stop limited (lines ++ line ∷ []) fault before (omega (arith, full.full, ap length all)) ∙ ap (λ s. Some s) (sym full.limit)
 
 spent-stops : (limited : Bool) (file : StampFile) (quota : Quota) (lines : List Line) (line : Line) (fault : Option LineFault) (s : Stop) → Gathers
     limited file quota lines → IsHeaded (lines ++ line ∷ []) → HasNoQuota s file quota line → stop_by limited (lines ++ line ∷ []) fault ≡ Some s
 spent-stops limited file quota lines line fault s is headed spent =
     let all : items_in (lines ++ line ∷ []) ≡ file.items.items ++ items_in (line ∷ []) = items_in-append lines (line ∷ [])
-        ∙ ap (λ (xs : List ItemLine). xs ++ items_in (line ∷ [])) (sym is.items) in
+    ∙ ap (λ (xs : List ItemLine). xs ++ items_in (line ∷ [])) (sym is.items) in
     let on : limited ≡ true = sym is.same ∙ spent.limited in
     let many = spent.many (accepted_among (head_after no_head lines).freq [] (items_in lines)) (is.counts on) in
     accepted-stop limited (lines ++ line ∷ []) fault (are-many limited (lines ++ line ∷ []) (omega (arith, spent.few, ap length all)) on
-        (omega (arith, many, ap (λ (xs : List Item). length (counts_of xs)) (accepted-line file.head lines line headed is.head))))
-        ∙ ap (λ s. Some s) (sym spent.limit)
+    (omega (arith, many, ap (λ (xs : List Item). length (counts_of xs)) (accepted-line file.head lines line headed is.head))))
+    ∙ ap (λ s. Some s) (sym spent.limit)
 
 line-passes : (limited : Bool) (file : StampFile) (quota : Quota) (lines : List Line) (line : Line) (fault : Option LineFault) (s : Stop) → Gathers
     limited file quota lines → IsHeaded (lines ++ line ∷ []) → IsFull s file line ⊎ HasNoQuota s file quota line

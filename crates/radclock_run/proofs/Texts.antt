@@ -10,7 +10,7 @@ pub texts-next : {X Y Z : Type 0} (f : X → Z) (g : Y → Z) (xs new : List X) 
     ∷ [] → map f xs ≡ map g (take i ys) → f x ≡ g y → y ≡ get_or ys i y → map f new ≡ map g (take (i + 1) ys)
 texts-next f g xs new ys x y i within one before same at =
     ap (map f) one ∙ map-append f xs (x ∷ []) ∙ ap₂ (λ a b. a ++ b ∷ []) before (same ∙ ap g at)
-        ∙ sym (map-append g (take i ys) (get_or ys i y ∷ [])) ∙ ap (map g) (sym (take_more ys i y within))
+    ∙ sym (map-append g (take i ys) (get_or ys i y ∷ [])) ∙ ap (map g) (sym (take_more ys i y within))
 
 -- the words behind the first
 behind : {Y Z : Type 0} (g : Y → Z) (words : List Y) → map g (drop 1 words) ≡ drop 1 (map g words)

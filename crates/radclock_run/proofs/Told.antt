@@ -93,16 +93,18 @@ value-at : {X : Type 0} (f : ℕ → X) (n k : ℕ) → k < n → slice_get (map
 value-at f n k within =
     let many = length-map-range_with_len f 0 n in
     slice_get-get_or (map f (range_with_len 0 n)) k (f k) (omega (arith, many, within))
-        ∙ ap (λ x. Some x) (get_or-map-range_with_len f 0 n k k (f k) within (omega arith))
+    ∙ ap (λ x. Some x) (get_or-map-range_with_len f 0 n k k (f k) within (omega arith))
 
 -- what more items say stands behind what is said before them
 events-start : (freq : ℕ) (xs rest : List Item) → (more : List Event) × (events_of freq (xs ++ rest) ≡ events_of freq xs ++ more)
 events-start freq xs [] = ([], ap (events_of freq) (append-nil xs) ∙ sym (append-nil (events_of freq xs)))
 events-start freq xs (y ∷ ys) =
     let later = events-start freq (xs ++ y ∷ []) ys in
-    let here = option_to_list (event_behind freq xs y) in
-    (here ++ later.0, ap (events_of freq) (sym (append_assoc xs (y ∷ []) ys)) ∙ later.1
-        ∙ ap (λ (es : List Event). es ++ later.0) (events-push freq xs y) ∙ append_assoc (events_of freq xs) here later.0)
+    let here = option_to_list (event_behind freq xs y) in (
+      here ++ later.0,
+      ap (events_of freq) (sym (append_assoc xs (y ∷ []) ys)) ∙ later.1
+          ∙ ap (λ (es : List Event). es ++ later.0) (events-push freq xs y) ∙ append_assoc (events_of freq xs) here later.0,
+    )
 
 -- where a stamp stands among accepted items
 module _ (freq : ℕ) (items front : List Item) (s : Stamp) (rest : List Item) (is : items ≡ front ++ (item.Stamp s ∷ rest)) where
@@ -134,10 +136,10 @@ module _ (freq : ℕ) (items front : List Item) (s : Stamp) (rest : List Item) (
       let later = events-start freq (front ++ item.Stamp s ∷ []) rest in
       let events : events_of freq items ≡ events_of freq front ++ (event.Estimate f ∷ later.0) =
       ap (events_of freq) (is ∙ sym (append_assoc front (item.Stamp s ∷ []) rest)) ∙ later.1
-          ∙ ap (λ (es : List Event). es ++ later.0) (events-push freq front (item.Stamp s))
-          ∙ append_assoc (events_of freq front) (event.Estimate f ∷ []) later.0 in
+      ∙ ap (λ (es : List Event). es ++ later.0) (events-push freq front (item.Stamp s))
+      ∙ append_assoc (events_of freq front) (event.Estimate f ∷ []) later.0 in
       let all : fulls_of (events_of freq items) ≡ before ++ (f ∷ fulls_of later.0) = ap fulls_of events
-          ∙ filter_map-append full_of_event (events_of freq front) (event.Estimate f ∷ later.0) in
+      ∙ filter_map-append full_of_event (events_of freq front) (event.Estimate f ∷ later.0) in
       ap₂ (λ (fs : List Full) (n : ℕ). slice_get fs n) all (sym (many-estimates freq front)) ∙ seam before f (fulls_of later.0)
 
 -- the three reports on items
@@ -146,25 +148,25 @@ pub stamps-by-list : (h : Head) (xs : List ItemLine) → report (head.Stamps h.f
 stamps-by-list h xs =
     let all = accepted_among h.freq [] xs in
     report-lines (head.Stamps h.freq h.version) (stamps_says h) (λ n s. of_nth (λ s. stamp_text n s h.version) (stamps_of all) n) h.freq xs
-        (λ front s rest is. sym (of-nth (λ s. stamp_text (length (stamps_of front)) s h.version) (stamps_of all) (length (stamps_of front)) s
-        (stamp-at h.freq all front s rest is)))
+    (λ front s rest is. sym (of-nth (λ s. stamp_text (length (stamps_of front)) s h.version) (stamps_of all) (length (stamps_of front)) s
+    (stamp-at h.freq all front s rest is)))
 
 pub rtt-by-list : (h : Head) (xs : List ItemLine) → report (head.Rtt h.freq h.version) (rtt_says h) (outcomes h.freq [] xs) ≡ rtt_report h
     (outcomes h.freq [] xs) (bases_of h.freq (stamps_of (accepted_among h.freq [] xs)))
 rtt-by-list h xs =
     let all = accepted_among h.freq [] xs in
     report-lines (head.Rtt h.freq h.version) (rtt_says h) (λ n s. of_nth (base_text n (trip s)) (bases_of h.freq (stamps_of all)) n) h.freq xs
-        (λ front s rest is. sym (of-nth (base_text (length (stamps_of front)) (trip s)) (bases_of h.freq (stamps_of all)) (length (stamps_of front))
-        _ (base-at h.freq all front s rest is)))
+    (λ front s rest is. sym (of-nth (base_text (length (stamps_of front)) (trip s)) (bases_of h.freq (stamps_of all)) (length (stamps_of front))
+    _ (base-at h.freq all front s rest is)))
 
 pub estimate-by-list : (h : Head) (xs : List ItemLine) → report (head.Estimate h.freq h.version) (estimate_says h) (outcomes h.freq [] xs)
     ≡ estimate_report h (outcomes h.freq [] xs) (fulls_of (events_of h.freq (accepted_among h.freq [] xs)))
 estimate-by-list h xs =
     let all = accepted_among h.freq [] xs in
     report-lines (head.Estimate h.freq h.version) (estimate_says h)
-        (λ n s. of_nth (λ f. estimate_text n f h.version) (fulls_of (events_of h.freq all)) n) h.freq xs
-        (λ front s rest is. sym (of-nth (λ f. estimate_text (length (stamps_of front)) f h.version) (fulls_of (events_of h.freq all))
-        (length (stamps_of front)) _ (full-at h.freq all front s rest is)))
+    (λ n s. of_nth (λ f. estimate_text n f h.version) (fulls_of (events_of h.freq all)) n) h.freq xs
+    (λ front s rest is. sym (of-nth (λ f. estimate_text (length (stamps_of front)) f h.version) (fulls_of (events_of h.freq all))
+    (length (stamps_of front)) _ (full-at h.freq all front s rest is)))
 
 pub replay-by-list : (h : Head) (o : Options) (xs : List ItemLine) (ticks : List Hands) (logs : List (List Entry)) → replay_told (replay_head h o)
     (estimate_says h) (outcomes h.freq [] xs) ticks logs ≡ replay_report h o (outcomes h.freq [] xs)
@@ -174,7 +176,7 @@ replay-by-list h o xs ticks logs =
     let all = accepted_among h.freq [] xs in
     let q = outcomes h.freq [] xs in
     let told = told-lines (estimate_says h) (λ n s. of_nth (λ f. estimate_text n f h.version) (fulls_of (events_of h.freq all)) n) h.freq [] xs
-        (λ front s rest is. sym (of-nth (λ f. estimate_text (length (stamps_of front)) f h.version) (fulls_of (events_of h.freq all))
-        (length (stamps_of front)) _ (full-at h.freq all front s rest is))) in
+    (λ front s rest is. sym (of-nth (λ f. estimate_text (length (stamps_of front)) f h.version) (fulls_of (events_of h.freq all))
+    (length (stamps_of front)) _ (full-at h.freq all front s rest is))) in
     ap (λ (ls : List (List ℕ)). (((head_text (replay_head h o) ∷ ls) ++ tick_lines 0 ticks) ++ log_lines 0 logs)
-        ++ end_text (replay_counts q ticks logs) ∷ []) told
+    ++ end_text (replay_counts q ticks logs) ∷ []) told

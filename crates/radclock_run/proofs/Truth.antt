@@ -72,7 +72,7 @@ log-true w ticks es are log n r h here at sync =
     let same : is.hands ≡ h = (let e = sym is.tick ∙ at in cc) in
     let covered : IsCovered w r.kind r.count (number_of (value_of is.hands r.kind r.count)) (bound_of is.hands r.kind r.count) =
     reading-true w ticks r.tick r.count is.hands r.kind (are r.tick is.hands is.tick
-        (subst (λ (h : Hands). h.kstatus.unsync ≡ false) (sym same) sync)) is.place in
+    (subst (λ (h : Hands). h.kstatus.unsync ≡ false) (sym same) sync)) is.place in
     subst (λ b. IsCovered w r.kind r.count (number_of r.time) b) (sym is.bound)
     (subst (λ (t : Bintime). IsCovered w r.kind r.count (number_of t) (bound_of is.hands r.kind r.count)) (sym is.time) covered)
 
@@ -107,7 +107,7 @@ pub made-truth-of : (a : Asked) (told : Option Deviation) (pen : PenShows) → I
 made-truth-of a told pen made =
     let holds : (w : World) → IsFit frequency w → All (LiesIn w) (run_stamps a) → IsTrueReplay w frequency (run_items a) pen =
     λ w fit lie. replay-true w run_options frequency (run_items a) pen (omega arith) (omega arith) fit
-        (stamps-are-items frequency (run_stamps a) made.accepted) (subst (All (LiesIn w)) (sym (stamps-back (run_stamps a))) lie) made.replayed in
+    (stamps-are-items frequency (run_stamps a) made.accepted) (subst (All (LiesIn w)) (sym (stamps-back (run_stamps a))) lie) made.replayed in
     record { holds = holds; made = holds made_world made-fits (made-lie a.number a.count) }
 
 module _ (w : World) (freq : ℕ) (items : List ItemLine) (ranged : IsRanged freq items) (fit : IsFit freq w)

@@ -46,9 +46,9 @@ pub piece-stops : (limited : Bool) (text piece read : List ℕ) (n : ℕ) (s : S
     → stop_within limited (text ++ read) ≡ Some s → stop_so_far limited (text ++ piece) ≡ Some s
 piece-stops limited text piece read n s e short found =
     let front : stop_so_far limited (text ++ take n piece) ≡ Some s = stop_so_far-short limited (text ++ take n piece)
-        (omega (arith, length-append text (take n piece), length-take n piece)) ∙ ap (λ (bs : List ℕ). stop_within limited (text ++ bs)) (sym e) ∙ found in
+    (omega (arith, length-append text (take n piece), length-take n piece)) ∙ ap (λ (bs : List ℕ). stop_within limited (text ++ bs)) (sym e) ∙ found in
     ap (stop_so_far limited) (sym (append_assoc text (take n piece) (drop n piece) ∙ ap (λ (bs : List ℕ). text ++ bs) (take-append-drop n piece)))
-        ∙ stop_so_far-stays limited (text ++ take n piece) (drop n piece) s front
+    ∙ stop_so_far-stays limited (text ++ take n piece) (drop n piece) s front
 
 -- a piece that goes past the limit on bytes
 pub bytes-stop : (limited : Bool) (k : Kept) (file : StampFile) (quota : Quota) (text piece : List ℕ) → length text ≤ 16777216
@@ -59,14 +59,14 @@ bytes-stop limited k file quota text piece few many reads =
     let sum : length text + n ≡ 16777216 = omega arith in
     let read : take 16777216 (text ++ piece) ≡ text ++ take n piece = ap (λ n. take n (text ++ piece)) (sym sum) ∙ take-append-add text piece n in
     stop_so_far-long limited (text ++ piece) (omega (arith, length-append text piece))
-        ∙ ap (λ (bs : List ℕ). first_stop (stop_within limited bs) (Some (stop.Large limit.Bytes))) read
-        ∙ ap (λ o. first_stop o (Some (stop.Large limit.Bytes))) (reads-within limited k file quota (text ++ take n piece) reads)
+    ∙ ap (λ (bs : List ℕ). first_stop (stop_within limited bs) (Some (stop.Large limit.Bytes))) read
+    ∙ ap (λ o. first_stop o (Some (stop.Large limit.Bytes))) (reads-within limited k file quota (text ++ take n piece) reads)
 
 -- the last pull found the end
 pub reaches-end : (limited : Bool) {S : Type 0} (left : S → Option (List ℕ)) (faults : S → ℕ) (pull : PullGives S) (old mid new : S)
     (text room filled : List ℕ) (s : Option Stop)
     → Took left faults pull 4096 old text mid → stop_so_far limited text ≡ None → length room ≡ 4096 → length filled ≡ 4096
-        → pull mid room (Ok 0) filled new → StopsBehind limited text (Ok 0) s → ReadsTo pull limited old text s new
+    → pull mid room (Ok 0) filled new → StopsBehind limited text (Ok 0) s → ReadsTo pull limited old text s new
 reaches-end limited left faults pull old mid new text room filled s took sound sized full gives stops = record {
   front = text;
   mid = mid;
@@ -88,7 +88,7 @@ reads-whole limited text none = subst (StopsBehind limited text (Ok 0)) none at_
 pub breaks-off : (limited : Bool) {S : Type 0} (left : S → Option (List ℕ)) (faults : S → ℕ) (pull : PullGives S) (old mid new : S)
     (text room filled : List ℕ) (taken : ℕ)
     → Took left faults pull 4096 old text mid → stop_so_far limited text ≡ None → length room ≡ 4096 → length filled ≡ 4096
-        → pull mid room (Err (record {})) filled new → length text ≡ taken → ReadsTo pull limited old text (Some (stop.Read taken)) new
+    → pull mid room (Err (record {})) filled new → length text ≡ taken → ReadsTo pull limited old text (Some (stop.Read taken)) new
 breaks-off limited left faults pull old mid new text room filled taken took sound sized full gives bytes = record {
   front = text;
   mid = mid;
@@ -110,18 +110,57 @@ StopsTo pull limited old s new = (text : List ℕ) × ReadsTo pull limited old t
 pub stops-in : (limited : Bool) {S : Type 0} (left : S → Option (List ℕ)) (faults : S → ℕ) (pull : PullGives S) (old mid new : S)
     (text piece : List ℕ) (n : ℕ) (s : Stop) (P : Type 0)
     → Took left faults pull 4096 old text mid → stop_so_far limited text ≡ None → 0 < n
-        → (last : Pulled pull 4096 mid (Ok n) piece new) → length last.filled ≡ 4096 → (P → stop_so_far limited (text ++ piece) ≡ Some s)
-        → IsInputStop s P → StopsTo pull limited old s new
-stops-in limited left faults pull old mid new text piece n stop.Memory P took sound some last full g h =
-    (text ++ piece, record { front = text; mid = mid; pulls = took.pulls; sound = sound; answer = Ok n; piece = piece; last = last; sized = full;
-    whole = refl; stops = out_of_memory n }, tt)
+    → (last : Pulled pull 4096 mid (Ok n) piece new) → length last.filled ≡ 4096 → (P → stop_so_far limited (text ++ piece) ≡ Some s)
+    → IsInputStop s P → StopsTo pull limited old s new
+stops-in limited left faults pull old mid new text piece n stop.Memory P took sound some last full g h = (
+  text ++ piece,
+  record {
+    front = text;
+    mid = mid;
+    pulls = took.pulls;
+    sound = sound;
+    answer = Ok n;
+    piece = piece;
+    last = last;
+    sized = full;
+    whole = refl;
+    stops = out_of_memory n;
+  },
+  tt,
+)
 stops-in limited left faults pull old mid new text piece n (stop.Read taken) P took sound some last full g h = absurd h
-stops-in limited left faults pull old mid new text piece n (stop.Fault f) P took sound some last full g h =
-    (text ++ piece, record { front = text; mid = mid; pulls = took.pulls; sound = sound; answer = Ok n; piece = piece; last = last; sized = full;
-    whole = refl; stops = in_piece n (stop.Fault f) some (g h) }, tt)
-stops-in limited left faults pull old mid new text piece n (stop.Large l) P took sound some last full g h =
-    (text ++ piece, record { front = text; mid = mid; pulls = took.pulls; sound = sound; answer = Ok n; piece = piece; last = last; sized = full;
-    whole = refl; stops = in_piece n (stop.Large l) some (g h) }, tt)
+stops-in limited left faults pull old mid new text piece n (stop.Fault f) P took sound some last full g h = (
+  text ++ piece,
+  record {
+    front = text;
+    mid = mid;
+    pulls = took.pulls;
+    sound = sound;
+    answer = Ok n;
+    piece = piece;
+    last = last;
+    sized = full;
+    whole = refl;
+    stops = in_piece n (stop.Fault f) some (g h);
+  },
+  tt,
+)
+stops-in limited left faults pull old mid new text piece n (stop.Large l) P took sound some last full g h = (
+  text ++ piece,
+  record {
+    front = text;
+    mid = mid;
+    pulls = took.pulls;
+    sound = sound;
+    answer = Ok n;
+    piece = piece;
+    last = last;
+    sized = full;
+    whole = refl;
+    stops = in_piece n (stop.Large l) some (g h);
+  },
+  tt,
+)
 
 -- the end stops the input, or memory was wanting for its last line
 end-stops : (limited : Bool) (text : List ℕ) (s : Stop) (P : Type 0) → (P → stop_of_file limited text ≡ Some s) → IsInputStop s P
@@ -134,7 +173,7 @@ end-stops limited text (stop.Large l) P g h = (subst (StopsBehind limited text (
 pub stops-end : (limited : Bool) {S : Type 0} (left : S → Option (List ℕ)) (faults : S → ℕ) (pull : PullGives S) (old mid new : S)
     (text room filled : List ℕ) (s : Stop) (P : Type 0)
     → Took left faults pull 4096 old text mid → stop_so_far limited text ≡ None → length room ≡ 4096 → length filled ≡ 4096
-        → pull mid room (Ok 0) filled new → (P → stop_of_file limited text ≡ Some s) → IsInputStop s P → StopsTo pull limited old s new
+    → pull mid room (Ok 0) filled new → (P → stop_of_file limited text ≡ Some s) → IsInputStop s P → StopsTo pull limited old s new
 stops-end limited left faults pull old mid new text room filled s P took sound sized full gives g h =
     let stops = end-stops limited text s P g h in
     (text, reaches-end limited left faults pull old mid new text room filled (Some s) took sound sized full gives stops.0, stops.1)

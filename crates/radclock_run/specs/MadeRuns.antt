@@ -34,8 +34,13 @@ run_fulls asked = fulls_of (events_of frequency (run_items asked))
 
 -- what its summary counts, where each stamp is accepted
 abbrev pub summary_of : List Full → Summary
-summary_of fulls = record { accepted = length fulls; refused = 0; shifts = count_by (λ f. f.shifted) fulls;
-    predicted = count_by (λ f. f.predicted) fulls; local = count_by (λ f. f.local) fulls }
+summary_of fulls = record {
+  accepted = length fulls;
+  refused = 0;
+  shifts = count_by (λ f. f.shifted) fulls;
+  predicted = count_by (λ f. f.predicted) fulls;
+  local = count_by (λ f. f.local) fulls;
+}
 
 -- what its end counts
 abbrev pub run_counts : List Full → List Hands → ℕ → EndCounts

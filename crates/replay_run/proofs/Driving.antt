@@ -65,7 +65,7 @@ tick-of : (out : Bool) (steps : List PlanStep) (k : ℕ) (d : PlanStep) (ticks :
     → length ticks ≡ 1 + k → ((i : ℕ) (s : PlanStep) (h : Hands) → i < k → slice_get steps i ≡ Some s → slice_get ticks (i + 1) ≡ Some h → IsTickOf out s h)
     → (get_or steps k d).to ≤ counter → (out ≡ false → counter ≡ (get_or steps k d).to)
     → (i : ℕ) (s : PlanStep) (h : Hands) → slice_get steps i ≡ Some s
-        → IsPlace ticks (wind_of (newest ticks) counter (get_or steps k d).order) (i + 1) h → IsTickOf out s h
+    → IsPlace ticks (wind_of (newest ticks) counter (get_or steps k d).order) (i + 1) h → IsTickOf out s h
 tick-of out steps k d ticks counter many each reached still i s h at (stays w here) = each i s h (omega arith) at here
 tick-of out steps k d ticks counter many each reached still i s h at (comes e is) =
     let here : i ≡ k = omega arith in
@@ -88,7 +88,7 @@ drives-next steps old mid new k d within drives step =
     let now : PenShows = record mid { journal = mid.journal ++ h ∷ []; counters = step.counters; top = s.to; met = step.met; spare = mid.spare - 1 } in
     let on = fits-on (newest mid.journal) step.count s.order step.fits in
     let update : (newest (mid.journal ++ h ∷ [])).est.update_ffcount ≡ update_after (newest mid.journal).est.update_ffcount s.order = ap
-        (λ (h : Hands). h.est.update_ffcount) (newest-push mid.journal h) ∙ update-wound (newest mid.journal) step.count s.order in
+    (λ (h : Hands). h.est.update_ffcount) (newest-push mid.journal h) ∙ update-wound (newest mid.journal) step.count s.order in
     let all : greatest (drop k steps) ≡ max s.to (greatest rest) = ap greatest (drop_more steps k d within) in
     let made : Drives steps old now (k + 1) = record {
       journal = (holds-wound mid.journal step.count s.order (record { journal = drives.journal; reached = step.later; most = on.most }) step.fits).journal;

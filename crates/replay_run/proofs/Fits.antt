@@ -41,9 +41,10 @@ between-fits ticks from to update zero m before rest order most few later then =
     then before (omega arith)
 between-fits ticks from to update (suc n) m before rest order most few later then =
     let end = between-within ticks from to m order (omega arith) in
-    let next = between-later ticks from to m in
-    (record { later = later; most = omega arith; sane = refl; in_time = tt },
-        between-fits ticks from to update n (m + 1) (count_between ticks from to m) rest order most (omega arith) next then)
+    let next = between-later ticks from to m in (
+      record { later = later; most = omega arith; sane = refl; in_time = tt },
+      between-fits ticks from to update n (m + 1) (count_between ticks from to m) rest order most (omega arith) next then,
+    )
 
 -- the events behind the first one
 tail-turn : (freq : ℕ) (e : Event) (es : List Event) → AreInTurn freq (e ∷ es) → AreInTurn freq es
@@ -95,8 +96,8 @@ from-fits freq e (next ∷ es) ticks before update are later newer =
     let most : to < 2 ^ 62 = count-most freq next (are.sane 1 e (omega arith)) in
     let rest : List PlanStep = steps_between ticks from to ++ steps_from freq (next ∷ es) ticks in
     let fits : PlanFits from from rest = between-fits ticks from to from ticks 1 from (steps_from freq (next ∷ es) ticks) (omega arith) most
-        (omega arith) (omega arith) (λ count within. from-fits freq next es ticks count from (tail-turn freq e (next ∷ es) are) within
-        (newer-by from next rises)) in
+    (omega arith) (omega arith) (λ count within. from-fits freq next es ticks count from (tail-turn freq e (next ∷ es) are) within
+    (newer-by from next rises)) in
     (event-fits freq e (next ∷ es) before update are later newer, subst (λ u. PlanFits from u rest) (sym (update-is freq update e)) fits)
 
 reset-sane : (freq : ℕ) → 1000000 ≤ freq → is_sane_estimate (reset_estimate start_time 0 freq) ≡ true
@@ -109,8 +110,10 @@ reset-sane freq low =
 pub plan-fits : (freq : ℕ) (es : List Event) (ticks : ℕ) → 1000000 ≤ freq → AreInTurn freq es → PlanFits 0 0 (plan_of freq es ticks)
 unfolding plan_of
 plan-fits freq [] ticks low are = (record { later = omega arith; most = omega arith; sane = reset-sane freq low; in_time = omega arith }, tt)
-plan-fits freq (e ∷ es) ticks low are = (record { later = omega arith; most = omega arith; sane = reset-sane freq low; in_time = omega arith },
-    from-fits freq e es ticks 0 0 are (omega arith) (first-newer e (are.late 0 e (omega arith))))
+plan-fits freq (e ∷ es) ticks low are = (
+  record { later = omega arith; most = omega arith; sane = reset-sane freq low; in_time = omega arith },
+  from-fits freq e es ticks 0 0 are (omega arith) (first-newer e (are.late 0 e (omega arith))),
+)
 
 -- so does that for the events of a daemon
 pub of-plan-fits : (freq : ℕ) (events : List Event) (items : List Item) (ticks : ℕ) → 1000000 ≤ freq → AreOf events freq items

@@ -37,7 +37,7 @@ ticks-follow (s ∷ steps) h before plan was zero a b at then =
 ticks-follow (s ∷ steps) h before plan was (suc n) a b at then =
     let next : Hands = wind_of h s.to s.order in
     ticks-follow steps next s.to (subst (λ u. PlanFits s.to u steps) (sym (update-wound h s.to s.order)) plan.1)
-        (omega (arith, count-wound h s.to s.order)) n a b at then
+    (omega (arith, count-wound h s.to s.order)) n a b at then
 
 pub journal-legal : (steps : List PlanStep) → PlanFits 0 0 steps → IsJournal (journal_of steps)
 unfolding journal_of
@@ -77,8 +77,12 @@ at-places {X} {Y} {Z} f g xs ys z k x y same at there =
 pub journal-by : (steps : List PlanStep) (ticks : List Hands) → IsJournal ticks → map (λ (h : Hands). h.count) ticks ≡ 0
     ∷ map (λ (s : PlanStep). s.to) steps → map order_of ticks ≡ order.Plain ∷ map (λ (s : PlanStep). s.order) steps → IsJournalOf false steps ticks
 journal-by steps ticks is counts orders =
-    let many : length ticks ≡ 1 + length steps = omega (arith, length-map ticks (λ (h : Hands). h.count), ap length counts,
-        length-map steps (λ (s : PlanStep). s.to)) in
+    let many : length ticks ≡ 1 + length steps = omega (
+      arith,
+      length-map ticks (λ (h : Hands). h.count),
+      ap length counts,
+      length-map steps (λ (s : PlanStep). s.to),
+    ) in
     let each : AreTicksOf false steps ticks = λ k s h at there. (
     let count = at-places (λ (h : Hands). h.count) (λ (s : PlanStep). s.to) ticks steps 0 k h s counts at there in
     record { order = at-places order_of (λ (s : PlanStep). s.order) ticks steps order.Plain k h s orders at there; reached = omega arith; exact = λ e. count }
@@ -115,8 +119,8 @@ exact-ticks (s ∷ steps) h (t ∷ ticks) next many each =
     let tick : IsTickOf false s t = each 0 s t refl refl in
     let same : t ≡ wind_of h s.to s.order = follows.wound ∙ ap₂ (wind_of h) (tick.exact refl) tick.order in
     let rest : ticks ≡ ticks_from t steps = exact-ticks steps t ticks
-        (λ n a b at then. next (suc n) a b at ((let e : suc n + 1 ≡ suc (n + 1) = omega arith in ap (slice_get (h ∷ (t ∷ ticks))) e) ∙ then))
-        (omega arith) (λ k p u at there. each (suc k) p u at there) in
+    (λ n a b at then. next (suc n) a b at ((let e : suc n + 1 ≡ suc (n + 1) = omega arith in ap (slice_get (h ∷ (t ∷ ticks))) e) ∙ then))
+    (omega arith) (λ k p u at there. each (suc k) p u at there) in
     ap₂ (λ (u : Hands) (us : List Hands). u ∷ us) same (rest ∙ ap (λ (u : Hands). ticks_from u steps) same)
 
 -- no other journal is like it
@@ -126,7 +130,7 @@ journal-only steps [] is = absurd (let w = is.many in omega arith)
 journal-only steps (h ∷ ticks) is =
     let first : h ≡ cold = get_or_from_slice_get (h ∷ ticks) 0 cold h is.journal.first in
     let rest = exact-ticks steps h ticks is.journal.next (let w = is.many in omega arith)
-        (λ k s t at there. is.each k s t at ((let e : k + 1 ≡ suc k = omega arith in ap (slice_get (h ∷ ticks)) e) ∙ there)) in
+    (λ k s t at there. is.each k s t at ((let e : k + 1 ≡ suc k = omega arith in ap (slice_get (h ∷ ticks)) e) ∙ there)) in
     ap₂ (λ (u : Hands) (us : List Hands). u ∷ us) first (rest ∙ ap (λ (u : Hands). ticks_from u steps) first)
 
 -- the orders of a journal, also where the counter was raised beside the driver
@@ -138,7 +142,7 @@ same-orders beside [] (t ∷ ticks) many each = absurd (omega arith)
 same-orders beside (s ∷ steps) [] many each = absurd (omega arith)
 same-orders beside (s ∷ steps) (t ∷ ticks) many each =
     ap₂ (λ (o : Order) (os : List Order). o ∷ os) (each 0 s t refl refl).order
-        (same-orders beside steps ticks (omega arith) (λ k p u at there. each (suc k) p u at there))
+    (same-orders beside steps ticks (omega arith) (λ k p u at there. each (suc k) p u at there))
 
 pub orders-of : (beside : Bool) (steps : List PlanStep) (ticks : List Hands) → IsJournalOf beside steps ticks → map order_of ticks ≡ order.Plain
     ∷ map (λ (s : PlanStep). s.order) steps
@@ -146,5 +150,5 @@ orders-of beside steps [] is = absurd (let w = is.many in omega arith)
 orders-of beside steps (h ∷ ticks) is =
     let first : h ≡ cold = get_or_from_slice_get (h ∷ ticks) 0 cold h is.journal.first in
     ap₂ (λ (o : Order) (os : List Order). o ∷ os) (ap order_of first)
-        (same-orders beside steps ticks (let w = is.many in omega arith)
-        (λ k s t at there. is.each k s t at ((let e : k + 1 ≡ suc k = omega arith in ap (slice_get (h ∷ ticks)) e) ∙ there)))
+    (same-orders beside steps ticks (let w = is.many in omega arith)
+    (λ k s t at there. is.each k s t at ((let e : k + 1 ≡ suc k = omega arith in ap (slice_get (h ∷ ticks)) e) ∙ there)))

@@ -15,7 +15,7 @@ use Rattle.tick_desk.specs.Shows.{PenShows}
 use Rattle.tick_desk.specs.Winds.{Lends}
 use Rattle.replay_run.specs.Drives.{IsDriven, Turned}
 use Rattle.replay_run.specs.Journals.{greatest, AreTicksOf, IsJournalOf}
-use Rattle.replay_run.specs.Logs.{IsNumbered, HasRun, HaveRun}
+use Rattle.replay_run.specs.Logs.{IsNumbered, HasRun, HaveRun, tried_by}
 use Rattle.replay_run.specs.Plays.{IsLentFor, IsMost, IsBack, IsKeptOf, TakesAll, IsKeptLog, Played}
 use Rattle.replay_run.specs.declared.log.ReadLog.{ReadLog}
 use Rattle.replay_run.proofs.Targets.{to-greatest}
@@ -51,8 +51,12 @@ rested-alone steps beside old lent driven new still alone same d is =
     let out : lent.out ≡ false = ap (λ (p : PenShows). p.out) same ∙ still in
     let each : AreTicksOf beside steps driven.journal = subst (λ (b : Bool). AreTicksOf b steps driven.journal) (out ∙ sym alone) d.each in
     let made : IsRested steps beside old driven = record {
-      journal = record { journal = d.journal; many = d.many; each = each;
-          most = exact-most steps driven.journal d.journal.first d.many (subst (λ (b : Bool). AreTicksOf b steps driven.journal) out d.each) };
+      journal = record {
+        journal = d.journal;
+        many = d.many;
+        each = each;
+        most = exact-most steps driven.journal d.journal.first d.many (subst (λ (b : Bool). AreTicksOf b steps driven.journal) out d.each);
+      };
       top = d.top;
       spare = d.spare ∙ ap (λ (p : PenShows). p.spare - length steps) same;
       out = d.out ∙ out;
@@ -93,8 +97,8 @@ rested steps beside old lent driven new (Some c) (Some t) still lends turns d ba
 
 -- the log of a reader, and what the pen keeps of its pass
 kept-log : (freq : ℕ) (options : Options) (most i : ℕ) (before mid after : ReadLog) (p : PenShows) (k : Kept)
-    → before.reader ≡ i → HasRun freq options.back options.reads before mid → IsKeptOf p mid after k → p.out ≡ false → p.top ≡ most
-        → IsKeptLog freq options most p.journal i after k
+    → before.reader ≡ i → HasRun freq options before mid → IsKeptOf p mid after k → p.out ≡ false → p.top ≡ most
+    → IsKeptLog freq options most p.journal i after k
 kept-log freq options most i before mid after p k number ran kept out top =
     let same : ran.pass ≡ kept.pass = (let e = sym ran.has ∙ kept.had in cc) in
     let is : kept_of ran.pass.view ≡ k = ap (λ (q : PassSees). kept_of q.view) same ∙ sym kept.is in
@@ -107,13 +111,13 @@ kept-log freq options most i before mid after p k number ran kept out top =
       log = record {
         legal = kept.legal.legal;
         since = kept.legal.since;
-        attempts = subst (AreAttempts freq options.back options.reads) items ran.attempts;
+        attempts = subst (AreAttempts freq (tried_by options) options.reads) items ran.attempts;
         within = subst (λ n. AreWithin n (map entry_of k.entries)) top (kept.legal.within out);
       };
     }
 
 pub played : (freq : ℕ) (options : Options) (steps : List PlanStep) (before mid after : List ReadLog) (old rest new : PenShows)
-    → IsNumbered before → length mid ≡ length before → length after ≡ length before → HaveRun freq options.back options.reads before mid
+    → IsNumbered before → length mid ≡ length before → length after ≡ length before → HaveRun freq options before mid
     → IsRested steps options.crank old rest → TakesAll mid after rest new → Played freq options steps before after old new
 played freq options steps before mid after old rest new numbered as_many still_many ran rested takes =
     let journal : new.journal ≡ rest.journal = ap (λ (p : PenShows). p.journal) takes.pen in
@@ -134,8 +138,8 @@ played freq options steps before mid after old rest new numbered as_many still_m
           let run = ran i l within in
           let reader : (get_or before i l).reader ≡ i = numbered i (get_or before i l) (slice_get-get_or before i l within) in
           let log = kept-log freq options (greatest steps) i (get_or before i l) (get_or mid i l) (get_or after i l) rest k reader run is rested.out
-              rested.top in
+          rested.top in
           let last : IsKeptLog freq options (greatest steps) rest.journal i l k = subst
-              (λ (q : ReadLog). IsKeptLog freq options (greatest steps) rest.journal i q k) (get_or_from_slice_get after i l l at) log in
+          (λ (q : ReadLog). IsKeptLog freq options (greatest steps) rest.journal i q k) (get_or_from_slice_get after i l l at) log in
           subst (λ (ts : List Hands). IsKeptLog freq options (greatest steps) ts i l k) (sym journal) last;
     }

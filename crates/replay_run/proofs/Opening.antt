@@ -19,8 +19,10 @@ empty-at reads n logs log are is i l (comes here e) = subst (λ k. IsEmpty reads
 pub empty-next : (reads n : ℕ) (logs logs' : List ReadLog) (log : ReadLog) → AreEmpty n reads logs → IsEmpty reads n log → logs' ≡ logs ++ log ∷ []
     → AreEmpty (n + 1) reads logs'
 empty-next reads n logs logs' log are is grown =
-    let made : AreEmpty (n + 1) reads (logs ++ log ∷ []) = record { many = omega (arith, length_push logs log, are.many);
-        each = λ i l at. empty-at reads n logs log are is i l (place logs log i l at) } in
+    let made : AreEmpty (n + 1) reads (logs ++ log ∷ []) = record {
+      many = omega (arith, length_push logs log, are.many);
+      each = λ i l at. empty-at reads n logs log are is i l (place logs log i l at);
+    } in
     subst (λ (ls : List ReadLog). AreEmpty (n + 1) reads ls) (sym grown) made
 
 -- the first n logs have their passes
@@ -51,7 +53,7 @@ giving-next start now passes left n e p within long g at left' rest =
         let is : p ≡ q = (let f = sym at ∙ ap (slice_get passes) (sym same) ∙ there in cc) in
         let here : get_or (set now n log) n d ≡ log = get_or-set_same now n log d within in
         let was : get_or now n e ≡ get_or start i d = g.after n e (omega arith) ∙ same-default start n e d (omega arith)
-            ∙ ap (λ k. get_or start k d) (sym same) in
+        ∙ ap (λ k. get_or start k d) (sym same) in
         ap (λ k. get_or (set now n log) k d) same ∙ here ∙ ap₂ (λ (l : ReadLog) (r : PassSees). record l { pass = Some r }) was is
     by_place i d q low there (inr other) = get_or-set_other now n i _ d other ∙ g.each i d q (omega arith) there
 
@@ -64,12 +66,14 @@ giving-more start now passes left left' n l p within long many g is first rest =
     let at : slice_get passes n ≡ Some p = slice_get-get_or passes n p (omega arith) ∙ ap (λ (q : PassSees). Some q) (sym value) in
     let drops : left' ≡ drop (n + 1) passes = rest ∙ ap (drop 1) g.rest ∙ drop-drop 1 n passes in
     subst (λ (k : ReadLog). Giving start (set now n (record k { pass = Some p })) passes left' (n + 1)) (sym is)
-        (giving-next start now passes left n l p within long g at left' drops)
+    (giving-next start now passes left n l p within long g at left' drops)
 
 pub giving-done : (start now : List ReadLog) (passes left : List PassSees) (n : ℕ) → length passes ≤ n → length now ≡ length start
     → Giving start now passes left n → AreGiven start now passes
-giving-done start now passes left n ended long g = record { many = long;
-    each = λ i d p at. (let w = slice_get_within passes i p at in g.each i d p (omega arith) at) }
+giving-done start now passes left n ended long g = record {
+  many = long;
+  each = λ i d p at. (let w = slice_get_within passes i p at in g.each i d p (omega arith) at);
+}
 
 -- logs with room that were given their passes are opened
 pub opened : (readers reads : ℕ) (start now : List ReadLog) (passes given : List PassSees) → AreEmpty readers reads start → AreGiven start now given
@@ -80,9 +84,13 @@ opened readers reads start now passes given empty gives same many = record {
       let within = slice_get_within now i l at in
       let was : IsEmpty reads i (get_or start i l) = empty.each i (get_or start i l) (slice_get-get_or start i l (omega (arith, gives.many))) in
       let is : l ≡ record (get_or start i l) { pass = Some p } = sym (get_or_from_slice_get now i l l at)
-          ∙ gives.each i l p (ap (λ (ps : List PassSees). slice_get ps i) same ∙ here) in
-      let made : IsOpened reads i p (record (get_or start i l) { pass = Some p }) = record { reader = was.reader; items = was.items; room = was.room;
-          pass = refl } in
+      ∙ gives.each i l p (ap (λ (ps : List PassSees). slice_get ps i) same ∙ here) in
+      let made : IsOpened reads i p (record (get_or start i l) { pass = Some p }) = record {
+        reader = was.reader;
+        items = was.items;
+        room = was.room;
+        pass = refl;
+      } in
       subst (IsOpened reads i p) (sym is) made;
 }
 
@@ -99,20 +107,24 @@ record IsNewAt (table : TableId) (seen i : ℕ) (p : PassSees) : Type 0 where
 
 pub new-many : (table : TableId) (number seen n : ℕ) → length (new_passes table number seen n) ≡ n
 new-many table number seen zero = refl
-new-many table number seen (suc n) = omega (arith, length_push (new_passes table number seen n)
-    (record { table = table; view = new_pass (number + n) seen }), new-many table number seen n)
+new-many table number seen (suc n) = omega (
+  arith,
+  length_push (new_passes table number seen n)
+      (record { table = table; view = new_pass (number + n) seen }),
+  new-many table number seen n,
+)
 
 new-at : (table : TableId) (seen n i : ℕ) (p : PassSees) → slice_get (new_passes table 0 seen n) i ≡ Some p → IsNewAt table seen i p
 new-at table seen zero i p at = absurd (let w = slice_get_within [] i p at in omega arith)
 new-at table seen (suc n) i p at = elim (place (new_passes table 0 seen n) (record { table = table; view = new_pass (0 + n) seen }) i p at) as
     (λ _. IsNewAt table seen i p) [
-  | stays w here ↦ new-at table seen n i p here
-  | comes here is ↦ record {
-    number = (let e = ap (λ (q : PassSees). q.view.number) is in let m = new-many table 0 seen n in omega arith);
-    unused = ap (λ (q : PassSees). q.view.entries) is;
-    table_is = ap (λ (q : PassSees). q.table) is;
-  }
-]
+      | stays w here ↦ new-at table seen n i p here
+      | comes here is ↦ record {
+        number = (let e = ap (λ (q : PassSees). q.view.number) is in let m = new-many table 0 seen n in omega arith);
+        unused = ap (λ (q : PassSees). q.view.entries) is;
+        table_is = ap (λ (q : PassSees). q.table) is;
+      }
+    ]
 
 record IsReadyAt (table : TableId) (reads i : ℕ) (l : ReadLog) : Type 0 where
   ready : IsReady reads l

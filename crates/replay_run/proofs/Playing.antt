@@ -21,7 +21,7 @@ pub step-fits : (h : Hands) (count before : ℕ) (s : PlanStep) → StepFits bef
     → count < 2 ^ 62 → fits h count s.order ≡ true
 step-fits h count before s step reached later most =
     and_both _ _ (and_both _ _ (and_both _ _ step.sane (grind (arith, nat_tests))) (grind (arith, nat_tests)))
-        (in-time h count s.to s.order step.in_time reached)
+    (in-time h count s.to s.order step.in_time reached)
 
 -- the count of the estimate after a windup
 pub update-wound : (h : Hands) (count : ℕ) (o : Order) → (wind_of h count o).est.update_ffcount ≡ update_after h.est.update_ffcount o

@@ -1,5 +1,5 @@
 -- While a reader reads.
-use Rattle.std.proofs.Common.{◌≡◌, ℕ, ◌+◌, ◌<◌, ◌^◌, Bool, List, [], ◌∷◌, ◌++◌, length, take, map, slice_get, Some, refl, sym, ap, ◌∙◌, subst, arith}
+use Rattle.std.proofs.Common.{◌≡◌, ℕ, ◌+◌, ◌<◌, ◌^◌, List, [], ◌∷◌, ◌++◌, length, take, map, slice_get, Some, refl, sym, ap, ◌∙◌, subst, arith}
 use Rattle.std.proofs.lemmas.List.{length_push, take-append-le, map-append}
 use Rattle.std.proofs.Math.Seq.{take-append_seam}
 use Rattle.std.proofs.lemmas.Option.{slice_get_within}
@@ -37,15 +37,15 @@ small-with h (entry.TooOld count oldest) latest low by = low
 small-with h (entry.Ahead count at) latest low by = low
 
 -- these entries are those of the pass, and answer the attempts so far
-pub record Reads (freq : ℕ) (back : Bool) (items : List Entry) (pass : PassSees) (k latest : ℕ) : Type 0 where
+pub record Reads (freq : ℕ) (kinds : List Kind) (items : List Entry) (pass : PassSees) (k latest : ℕ) : Type 0 where
   pub entries : items ≡ map entry_of pass.view.entries
   pub many : length items ≡ k
-  pub each : (i : ℕ) (e : Entry) → slice_get items i ≡ Some e → AnswersNext freq back (take i items) i e
+  pub each : (i : ℕ) (e : Entry) → slice_get items i ≡ Some e → AnswersNext freq kinds (take i items) i e
   pub latest_is : latest ≡ latest_after 0 items
   pub small : latest < 2 ^ 62
 
-pub reads-first : (freq : ℕ) (back : Bool) (items : List Entry) (pass : PassSees) → items ≡ [] → pass.view.entries ≡ [] → Reads freq back items pass 0 0
-reads-first freq back items pass none unused = record {
+pub reads-first : (freq : ℕ) (kinds : List Kind) (items : List Entry) (pass : PassSees) → items ≡ [] → pass.view.entries ≡ [] → Reads freq kinds items pass 0 0
+reads-first freq kinds items pass none unused = record {
   entries = none ∙ sym (ap (map entry_of) unused);
   many = ap length none;
   each = λ i e at. absurd (let w = slice_get_within items i e at in let n = ap length none in omega arith);
@@ -53,41 +53,42 @@ reads-first freq back items pass none unused = record {
   small = omega arith;
 }
 
-answers-at : (freq : ℕ) (back : Bool) (items : List Entry) (k : ℕ) (e : Entry) → length items ≡ k
-    → ((i : ℕ) (d : Entry) → slice_get items i ≡ Some d → AnswersNext freq back (take i items) i d) → AnswersNext freq back items k e
-    → (i : ℕ) (d : Entry) → IsPlace items e i d → AnswersNext freq back (take i (items ++ e ∷ [])) i d
-answers-at freq back items k e many each next i d (stays w here) =
-    subst (λ (es : List Entry). AnswersNext freq back es i d) (sym (take-append-le i items (e ∷ []) (omega arith))) (each i d here)
-answers-at freq back items k e many each next i d (comes here is) =
+answers-at : (freq : ℕ) (kinds : List Kind) (items : List Entry) (k : ℕ) (e : Entry) → length items ≡ k
+    → ((i : ℕ) (d : Entry) → slice_get items i ≡ Some d → AnswersNext freq kinds (take i items) i d) → AnswersNext freq kinds items k e
+    → (i : ℕ) (d : Entry) → IsPlace items e i d → AnswersNext freq kinds (take i (items ++ e ∷ [])) i d
+answers-at freq kinds items k e many each next i d (stays w here) =
+    subst (λ (es : List Entry). AnswersNext freq kinds es i d) (sym (take-append-le i items (e ∷ []) (omega arith))) (each i d here)
+answers-at freq kinds items k e many each next i d (comes here is) =
     let front : items ≡ take i (items ++ e ∷ []) = sym (ap (λ n. take n (items ++ e ∷ [])) here ∙ take-append_seam items (e ∷ [])) in
     let at : k ≡ i = omega arith in
-    subst (λ (es : List Entry). AnswersNext freq back es i d) front
-        (subst (λ n. AnswersNext freq back items n d) at (subst (AnswersNext freq back items k) (sym is) next))
+    subst (λ (es : List Entry). AnswersNext freq kinds es i d) front
+    (subst (λ n. AnswersNext freq kinds items n d) at (subst (AnswersNext freq kinds items k) (sym is) next))
 
-abbrev AnswersGiven : ℕ → Bool → ℕ → ℕ → Entry → Type 0
-AnswersGiven freq back k n e = IsAnswerTo (kind_at back k) (given_for freq n (kind_at back k)) e
+abbrev AnswersGiven : ℕ → List Kind → ℕ → ℕ → Entry → Type 0
+AnswersGiven freq kinds k n e = IsAnswerTo (kind_at kinds k) (given_for freq n (kind_at kinds k)) e
 
-reads-next : (freq : ℕ) (back : Bool) (items : List Entry) (old new : PassSees) (k latest : ℕ) (e : Entry) → Reads freq back items old k latest
-    → Adds old new (ask_for freq latest (kind_at back k)) e → Reads freq back (items ++ e ∷ []) new (k + 1) (latest_with latest e)
-reads-next freq back items old new k latest e reads adds =
-    let answers = answers-ask (ask_for freq latest (kind_at back k)) new.view.loads e adds.reads in
-    let next : AnswersNext freq back items k e = subst (λ n. AnswersGiven freq back k n e) reads.latest_is answers in
+reads-next : (freq : ℕ) (kinds : List Kind) (items : List Entry) (old new : PassSees) (k latest : ℕ) (e : Entry) → Reads freq kinds items old k
+    latest → Adds old new (ask_for freq latest (kind_at kinds k)) e → Reads freq kinds (items ++ e ∷ []) new (k + 1) (latest_with latest e)
+reads-next freq kinds items old new k latest e reads adds =
+    let answers = answers-ask (ask_for freq latest (kind_at kinds k)) new.view.loads e adds.reads in
+    let next : AnswersNext freq kinds items k e = subst (λ n. AnswersGiven freq kinds k n e) reads.latest_is answers in
     record {
-      entries = ap (λ (es : List Entry). es ++ e ∷ []) reads.entries ∙ sym (map-append entry_of old.view.entries _) ∙ sym (ap (map entry_of) adds.entries);
+      entries = ap (λ (es : List Entry). es ++ e ∷ []) reads.entries ∙ sym (map-append entry_of old.view.entries _)
+          ∙ sym (ap (map entry_of) adds.notes.entries);
       many = omega (arith, length_push items e, reads.many);
-      each = λ i d at. answers-at freq back items k e reads.many reads.each next i d (place items e i d at);
+      each = λ i d at. answers-at freq kinds items k e reads.many reads.each next i d (place items e i d at);
       latest_is = ap (λ n. latest_with n e) reads.latest_is ∙ sym (latest-push items 0 e);
       small = small-with _ e latest reads.small adds.by;
     }
 
-pub reads-more : (freq : ℕ) (back : Bool) (items items' : List Entry) (old new : PassSees) (k latest latest' : ℕ) (kind : Kind) (e : Entry) → kind
-    ≡ kind_at back k → items' ≡ items ++ e ∷ [] → latest' ≡ latest_with latest e → Reads freq back items old k latest
-    → Adds old new (ask_for freq latest kind) e → Reads freq back items' new (k + 1) latest'
-reads-more freq back items items' old new k latest latest' kind e is grown later reads adds =
+pub reads-more : (freq : ℕ) (kinds : List Kind) (items items' : List Entry) (old new : PassSees) (k latest latest' : ℕ) (kind : Kind)
+    (e : Entry) → kind ≡ kind_at kinds k → items' ≡ items ++ e ∷ [] → latest' ≡ latest_with latest e → Reads freq kinds items old k latest
+    → Adds old new (ask_for freq latest kind) e → Reads freq kinds items' new (k + 1) latest'
+reads-more freq kinds items items' old new k latest latest' kind e is grown later reads adds =
     let asked = subst (λ (k : Kind). Adds old new (ask_for freq latest k) e) is adds in
-    let next = reads-next freq back items old new k latest e reads asked in
-    subst (λ (es : List Entry). Reads freq back es new (k + 1) latest') (sym grown) (subst (Reads freq back (items ++ e ∷ []) new (k + 1)) (sym later) next)
+    let next = reads-next freq kinds items old new k latest e reads asked in
+    subst (λ (es : List Entry). Reads freq kinds es new (k + 1) latest') (sym grown) (subst (Reads freq kinds (items ++ e ∷ []) new (k + 1)) (sym later) next)
 
-pub reads-done : (freq : ℕ) (back : Bool) (items : List Entry) (pass : PassSees) (k latest : ℕ) → Reads freq back items pass k latest
-    → AreAttempts freq back k items
-reads-done freq back items pass k latest reads = record { many = reads.many; each = reads.each }
+pub reads-done : (freq : ℕ) (kinds : List Kind) (items : List Entry) (pass : PassSees) (k latest : ℕ) → Reads freq kinds items pass k latest
+    → AreAttempts freq kinds k items
+reads-done freq kinds items pass k latest reads = record { many = reads.many; each = reads.each }

@@ -27,7 +27,7 @@ plan_of-starts steps freq es ticks is = ap (λ (ss : List PlanStep). ss ++ steps
 -- from an event on that another one follows
 steps_from-more : (freq : ℕ) (es : List Event) (i ticks : ℕ) (d : Event) → suc i < length es
     → steps_from freq (drop i es) ticks ≡ event_step freq (get_or es i d)
-        ∷ (steps_between ticks (count_of_event (get_or es i d)) (count_of_event (get_or es (suc i) d)) ++ steps_from freq (drop (suc i) es) ticks)
+    ∷ (steps_between ticks (count_of_event (get_or es i d)) (count_of_event (get_or es (suc i) d)) ++ steps_from freq (drop (suc i) es) ticks)
 steps_from-more freq [] i ticks d more = absurd (omega arith)
 steps_from-more freq (e ∷ []) i ticks d more = absurd (omega arith)
 steps_from-more freq (e ∷ (next ∷ es)) zero ticks d more = refl
@@ -52,7 +52,7 @@ taken-more so_far taken steps plan s freq es i ticks to d whole is is_to take on
     let next : count_of_event (get_or es (suc i) d) ≡ to = ap (λ n. count_of_event (get_or es n d)) (sym place) ∙ sym is_to in
     let between : List PlanStep = steps_between ticks (count_of_event (get_or es i d)) (count_of_event (get_or es (suc i) d)) in
     let on' : steps ≡ taken ++ between = on ∙ ap (λ n. taken ++ steps_between ticks n to) (ap (λ (s : PlanStep). s.to) is)
-        ∙ ap (λ n. taken ++ steps_between ticks (count_of_event (get_or es i d)) n) (sym next) in
+    ∙ ap (λ n. taken ++ steps_between ticks (count_of_event (get_or es i d)) n) (sym next) in
     let take' : taken ≡ so_far ++ event_step freq (get_or es i d) ∷ [] = take ∙ ap (λ (s : PlanStep). so_far ++ s ∷ []) is in
     let after : List PlanStep = steps_from freq (drop (suc i) es) ticks in
     let first = append_assoc taken between after in
@@ -86,12 +86,12 @@ steps_from-len freq (e ∷ []) ticks = omega arith
 steps_from-len freq (e ∷ (next ∷ es)) ticks =
     let between : length (steps_between ticks (count_of_event e) (count_of_event next)) ≡ ticks = length-map-range_with_len _ 1 ticks in
     let both : length (steps_between ticks (count_of_event e) (count_of_event next) ++ steps_from freq (next ∷ es) ticks) ≡ length
-        (steps_between ticks (count_of_event e) (count_of_event next)) + length (steps_from freq (next ∷ es) ticks) =
-        length-append (steps_between ticks (count_of_event e) (count_of_event next)) _ in
+    (steps_between ticks (count_of_event e) (count_of_event next)) + length (steps_from freq (next ∷ es) ticks) =
+    length-append (steps_between ticks (count_of_event e) (count_of_event next)) _ in
     let rest : length (steps_from freq (next ∷ es) ticks) ≡ suc (length es) + ticks * (suc (length es) - 1) = steps_from-len freq (next ∷ es) ticks in
     let fewer : ticks * (suc (length es) - 1) ≡ ticks * length es = (let e : suc (length es) - 1 ≡ length es = omega arith in ap (λ n. ticks * n) e) in
     let more : ticks * (suc (suc (length es)) - 1) ≡ ticks * length es
-        + ticks = (let e : suc (suc (length es)) - 1 ≡ length es + 1 = omega arith in ap (λ n. ticks * n) e ∙ omega arith) in
+    + ticks = (let e : suc (suc (length es)) - 1 ≡ length es + 1 = omega arith in ap (λ n. ticks * n) e ∙ omega arith) in
     omega arith
 
 pub steps_len : (freq : ℕ) (es : List Event) (ticks : ℕ) → length (plan_of freq es ticks) ≡ 1 + length es + ticks * (length es - 1)

@@ -37,18 +37,18 @@ kept-place start now old k log kept q within many each next i d r (stays w here)
 kept-place start now old k log kept q within many each next i d r (comes here is) =
     let place : k ≡ i = omega arith in
     let new : IsKeptOf old (get_or start k d) (get_or (set now k log) k d) q = subst (λ (l : ReadLog). IsKeptOf old (get_or start k d) l q)
-        (sym (get_or-set_same now k log d within)) (next d) in
+    (sym (get_or-set_same now k log d within)) (next d) in
     subst (λ n. IsKeptOf old (get_or start n d) (get_or (set now k log) n d) r) place
-        (subst (IsKeptOf old (get_or start k d) (get_or (set now k log) k d)) (sym is) new)
+    (subst (IsKeptOf old (get_or start k d) (get_or (set now k log) k d)) (sym is) new)
 
 pub taking-next : (start now : List ReadLog) (old mid new : PenShows) (k : ℕ) (e log : ReadLog) → k < length now → length now ≡ length start
     → Taking start now old mid k → TakesIn (get_or now k e) log mid new → Taking start (set now k log) old new (k + 1)
 taking-next start now old mid new k e log within long t takes =
     let q : Kept = takes.kept in
     let was : IsKeptOf (record old { kept = old.kept ++ t.kept }) (get_or now k e) log q = subst
-        (λ (p : PenShows). IsKeptOf p (get_or now k e) log q) t.pen takes.log in
+    (λ (p : PenShows). IsKeptOf p (get_or now k e) log q) t.pen takes.log in
     let same : (d : ReadLog) → get_or now k e ≡ get_or start k d = λ d. t.rest k e (omega arith)
-        ∙ get_or_from_slice_get start k (get_or start k d) e (slice_get-get_or start k d (omega arith)) in
+    ∙ get_or_from_slice_get start k (get_or start k d) e (slice_get-get_or start k d (omega arith)) in
     let next : (d : ReadLog) → IsKeptOf old (get_or start k d) log q = λ d. (let s = same d in record {
       pass = was.pass;
       had = ap (λ (l : ReadLog). l.pass) (sym s) ∙ was.had;

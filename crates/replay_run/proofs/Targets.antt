@@ -67,12 +67,12 @@ steps-take freq (event.Estimate f ∷ (next ∷ es)) ticks =
     let between : List PlanStep = steps_between ticks from (count_of_event next) in
     let rest : List PlanStep = steps_from freq (next ∷ es) ticks in
     ap (λ (es : List Estimate). f.est ∷ es) (ap taken_in (map-append (λ (s : PlanStep). s.order) between rest)
-        ∙ between-takes ticks from (count_of_event next) ticks 1 (map (λ (s : PlanStep). s.order) rest) ∙ steps-take freq (next ∷ es) ticks)
+    ∙ between-takes ticks from (count_of_event next) ticks 1 (map (λ (s : PlanStep). s.order) rest) ∙ steps-take freq (next ∷ es) ticks)
 steps-take freq (event.Set count at ∷ (next ∷ es)) ticks =
     let between : List PlanStep = steps_between ticks count (count_of_event next) in
     let rest : List PlanStep = steps_from freq (next ∷ es) ticks in
     ap taken_in (map-append (λ (s : PlanStep). s.order) between rest)
-        ∙ between-takes ticks count (count_of_event next) ticks 1 (map (λ (s : PlanStep). s.order) rest) ∙ steps-take freq (next ∷ es) ticks
+    ∙ between-takes ticks count (count_of_event next) ticks 1 (map (λ (s : PlanStep). s.order) rest) ∙ steps-take freq (next ∷ es) ticks
 
 -- a plan takes each estimate once, in order
 pub plan-takes : (freq : ℕ) (es : List Event) (ticks : ℕ) → taken_in (map (λ (s : PlanStep). s.order) (plan_of freq es ticks)) ≡ estimates_of (fulls_of es)
@@ -97,7 +97,7 @@ steps-move freq (e ∷ (next ∷ es)) ticks =
     let rest : List PlanStep = steps_from freq (next ∷ es) ticks in
     move-first freq e (map (λ (s : PlanStep). s.order) (between ++ rest))
     ∙ ap (λ (os : List Order). order_of_event freq e ∷ os) (ap moves_in (map-append (λ (s : PlanStep). s.order) between rest)
-        ∙ between-moves ticks (count_of_event e) (count_of_event next) ticks 1 (map (λ (s : PlanStep). s.order) rest) ∙ steps-move freq (next ∷ es) ticks)
+    ∙ between-moves ticks (count_of_event e) (count_of_event next) ticks 1 (map (λ (s : PlanStep). s.order) rest) ∙ steps-move freq (next ∷ es) ticks)
 
 -- a plan goes by each event once, in order
 pub plan-moves : (freq : ℕ) (es : List Event) (ticks : ℕ) → moves_in (map (λ (s : PlanStep). s.order) (plan_of freq es ticks))

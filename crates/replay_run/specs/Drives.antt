@@ -18,8 +18,13 @@ pub record StepsBy (s : PlanStep) (old new : PenShows) : Type 0 where
   pub fits : fits (newest old.journal) count s.order ≡ true
   pub counters : List ℕ
   pub met : List ℕ
-  pub after : new ≡ record old { journal = old.journal ++ wind_of (newest old.journal) count s.order ∷ []; counters = counters; top = s.to;
-      met = met; spare = old.spare - 1 }
+  pub after : new ≡ record old {
+    journal = old.journal ++ wind_of (newest old.journal) count s.order ∷ [];
+    counters = counters;
+    top = s.to;
+    met = met;
+    spare = old.spare - 1;
+  }
 
 -- a pen was wound by each step
 pub record IsDriven (steps : List PlanStep) (old new : PenShows) : Type 0 where

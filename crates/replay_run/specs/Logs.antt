@@ -1,12 +1,13 @@
 -- The logs of readers: as they are opened, before their readers ran, and behind that.
-use Rattle.std.specs.Prelude.{◌≡◌, ℕ, ◌<◌, ◌≤◌, Bool, List, [], All, length, map, slice_get, slice_index_or, Some, vec_capacity}
+use Rattle.std.specs.Prelude.{◌≡◌, ℕ, ◌<◌, ◌≤◌, List, [], All, length, map, slice_get, slice_index_or, Some, vec_capacity}
 use Rattle.atomic_table.specs.Seated.{TableId}
 use Rattle.clock_lines.specs.declared.readings.Kind.{Kind}
-use Rattle.clock_logs.specs.Attempts.{AreAttempts, given_for}
+use Rattle.clock_logs.specs.Attempts.{AreAttempts, given_for, kinds_of}
 use Rattle.clock_logs.specs.Logs.{entry_of}
 use Rattle.tick_reads.specs.declared.loads.Ask.{Ask}
 use Rattle.tick_table.specs.Sees.{PassSees}
 use Rattle.replay_run.specs.declared.log.ReadLog.{ReadLog}
+use Rattle.replay_run.specs.declared.plan.Options.{Options}
 
 -- a log without a pass, with room for its entries
 pub record IsEmpty (reads i : ℕ) (l : ReadLog) : Type 0 where
@@ -64,16 +65,20 @@ pub record AreReady (table : TableId) (reads : ℕ) (logs : List ReadLog) : Type
 abbrev pub ask_for : ℕ → ℕ → Kind → Ask
 ask_for freq latest k = record { kind = k; given = given_for freq latest k }
 
+-- the kinds of the attempts of each reader, in turn
+abbrev pub tried_by : Options → List Kind
+tried_by options = kinds_of options.back options.utc
+
 -- A reader has run: its log's entries are those of its pass, and are what so many attempts were answered
-pub record HasRun (freq : ℕ) (back : Bool) (reads : ℕ) (before after : ReadLog) : Type 0 where
+pub record HasRun (freq : ℕ) (options : Options) (before after : ReadLog) : Type 0 where
   pub reader : after.reader ≡ before.reader
   pub pass : PassSees
   pub has : after.pass ≡ Some pass
   pub number : pass.view.number ≡ before.reader
   pub entries : after.entries.items ≡ map entry_of pass.view.entries
-  pub attempts : AreAttempts freq back reads after.entries.items
+  pub attempts : AreAttempts freq (tried_by options) options.reads after.entries.items
   pub table : (was : PassSees) → before.pass ≡ Some was → pass.table ≡ was.table
 
 -- so has each
-abbrev pub HaveRun : ℕ → Bool → ℕ → List ReadLog → List ReadLog → Type 0
-HaveRun freq back reads before after = (i : ℕ) (d : ReadLog) → i < length before → HasRun freq back reads (slice_index_or before i d) (slice_index_or after i d)
+abbrev pub HaveRun : ℕ → Options → List ReadLog → List ReadLog → Type 0
+HaveRun freq options before after = (i : ℕ) (d : ReadLog) → i < length before → HasRun freq options (slice_index_or before i d) (slice_index_or after i d)

@@ -12,6 +12,7 @@ use Rattle.tick_table.specs.Sees.{CrankSees, PassSees}
 use Rattle.tick_desk.specs.Shows.{PenShows}
 use Rattle.tick_desk.specs.Winds.{Lends}
 use Rattle.replay_run.specs.Journals.{greatest, IsJournalOf}
+use Rattle.replay_run.specs.Logs.{tried_by}
 use Rattle.replay_run.specs.declared.log.ReadLog.{ReadLog}
 use Rattle.replay_run.specs.declared.plan.Options.{Options}
 use Rattle.replay_run.specs.declared.plan.PlanStep.{PlanStep}
@@ -64,7 +65,7 @@ pub record TakesAll (before after : List ReadLog) (old new : PenShows) : Type 0 
 pub record IsLogOf (freq : ℕ) (options : Options) (most : ℕ) (ticks : List Hands) (es : List Noted) : Type 0 where
   pub legal : IsLog ticks (map entry_of es)
   pub since : AreSince ticks es
-  pub attempts : AreAttempts freq options.back options.reads (map entry_of es)
+  pub attempts : AreAttempts freq (tried_by options) options.reads (map entry_of es)
   pub within : AreWithin most (map entry_of es)
 
 -- the log of reader i, and what the pen keeps of its pass, which it has taken in

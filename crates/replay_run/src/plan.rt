@@ -23,6 +23,8 @@ pub struct Options {
     pub back: bool,
     /// The counter is raised beside the driver too.
     pub crank: bool,
+    /// The readers also read `Utc`.
+    pub utc: bool,
 }
 
 /// A step of a plan.

@@ -27,12 +27,10 @@ fn beside<R: Threads + Sync, G: Gate>(
     requires fits { PlanFits 0 0 plan.now.steps.items }
     requires ready { All (IsReady plan.now.options.reads) logs.old }
     ensures crank { Turned plan.now.steps.items crank.old crank.new }
-    ensures logs { HaveRun plan.now.freq plan.now.options.back plan.now.options.reads
-        logs.old logs.new }
+    ensures logs { HaveRun plan.now.freq plan.now.options logs.old logs.new }
 {
     let freq = plan.freq;
-    let back = plan.options.back;
-    let reads = plan.options.reads;
+    let options = plan.options;
     let steps: &[PlanStep] = &plan.steps;
     join_mut(
         rt,
@@ -42,8 +40,8 @@ fn beside<R: Threads + Sync, G: Gate>(
         { turn(crank, steps) },
         &mut ||
             requires freq { freq < 2 ^ 62 }
-            requires ready { All (IsReady reads) logs.now }
-            ensures { HaveRun freq back reads logs.entry.now logs.exit.now }
+            requires ready { All (IsReady options.reads) logs.now }
+            ensures { HaveRun freq options logs.entry.now logs.exit.now }
         {
             thread::for_each_mut(
                 rt,
@@ -51,9 +49,9 @@ fn beside<R: Threads + Sync, G: Gate>(
                 16,
                 &|_: usize, log: &mut ReadLog|
                     requires freq { freq < 2 ^ 62 }
-                    requires ready { IsReady reads log.old }
-                    ensures { HasRun freq back reads log.old log.new }
-                { read_all(gate, log, freq, back, reads) },
+                    requires ready { IsReady options.reads log.old }
+                    ensures { HasRun freq options log.old log.new }
+                { read_all(gate, log, freq, options) },
             )
         },
     );
@@ -76,8 +74,7 @@ fn together<R: Threads + Sync, G: Gate>(
     requires ready { All (IsReady plan.now.options.reads) logs.old }
     ensures pen { IsDriven plan.now.steps.items pen.old pen.new }
     ensures crank { Turned plan.now.steps.items crank.old crank.new }
-    ensures logs { HaveRun plan.now.freq plan.now.options.back plan.now.options.reads
-        logs.old logs.new }
+    ensures logs { HaveRun plan.now.freq plan.now.options logs.old logs.new }
 {
     let steps: &[PlanStep] = &plan.steps;
     join_mut(
@@ -94,8 +91,8 @@ fn together<R: Threads + Sync, G: Gate>(
             requires fits { PlanFits 0 0 plan.now.steps.items }
             requires ready { All (IsReady plan.now.options.reads) logs.now }
             ensures crank { Turned plan.entry.now.steps.items crank.entry.now crank.exit.now }
-            ensures logs { HaveRun plan.entry.now.freq plan.entry.now.options.back
-                plan.entry.now.options.reads logs.entry.now logs.exit.now }
+            ensures logs { HaveRun plan.entry.now.freq plan.entry.now.options logs.entry.now
+                logs.exit.now }
         { beside(rt, crank, logs, plan, gate) },
     );
 }

@@ -2,9 +2,10 @@
 ghost use Rattle.std.specs.Prelude.{◌≡◌, ◌<◌, ◌^◌};
 ghost use Rattle.clock_logs.specs.Attempts.{kind_at, latest_with};
 ghost use Rattle.tick_desk.specs.Answers.{Adds, entry_by, entry_from};
-ghost use Rattle.replay_run.specs.Logs.{IsReady, HasRun, ask_for};
+ghost use Rattle.replay_run.specs.Logs.{IsReady, HasRun, ask_for, tried_by};
 
 use crate::log::ReadLog;
+use crate::plan::Options;
 use clock_lines::{Entry, Kind};
 use rad_io::Gate;
 use std::mem;
@@ -12,17 +13,22 @@ use tick_desk::{Answer, Converted, Pass};
 
 // The kind of an attempt.
 #[inline(always)]
-fn kind_at(back: bool, k: u32) -> Kind
-    ensures { result ≡ kind_at back k }
+fn kind_at(options: Options, k: u32) -> Kind
+    ensures { result ≡ kind_at (tried_by options) k }
 {
-    let turn = if back { k % 6 } else { k % 5 };
+    let turn = match (options.back, options.utc) {
+        (false, false) => k % 5,
+        (true, false) | (false, true) => k % 6,
+        (true, true) => k % 7,
+    };
     match turn {
         0 => Kind::Abs,
         1 => Kind::Mono,
         2 => Kind::Uptime,
         3 => Kind::Fast,
         4 => Kind::Diff,
-        _ => Kind::Back,
+        5 if options.back => Kind::Back,
+        _ => Kind::Utc,
     }
 }
 
@@ -90,10 +96,10 @@ fn attempt(pass: &mut Pass, kind: Kind, freq: u64, latest: u64) -> Entry
 //
 // The pass and the entries are the function's own while it runs: the logs of all readers lie side by side, and
 // threads that wrote in them at each attempt would take the same cache lines from each other.
-pub(crate) fn read_all<G: Gate>(gate: &G, log: &mut ReadLog, freq: u64, back: bool, reads: u32)
+pub(crate) fn read_all<G: Gate>(gate: &G, log: &mut ReadLog, freq: u64, options: Options)
     requires freq { freq < 2 ^ 62 }
-    requires ready { IsReady reads log.old }
-    ensures { HasRun freq back reads log.old log.new }
+    requires ready { IsReady options.reads log.old }
+    ensures { HasRun freq options log.old log.new }
 {
     let reader = log.reader;
     let Some(mut pass) = log.pass.take() else {
@@ -102,9 +108,9 @@ pub(crate) fn read_all<G: Gate>(gate: &G, log: &mut ReadLog, freq: u64, back: bo
     let alloc = *log.entries.allocator();
     let mut entries = mem::replace(&mut log.entries, Vec::new(alloc));
     let mut latest = 0;
-    for k in 0..reads {
+    for k in 0..options.reads {
         gate.between_reads(reader, k);
-        let entry = attempt(&mut pass, kind_at(back, k), freq, latest);
+        let entry = attempt(&mut pass, kind_at(options, k), freq, latest);
         latest = latest_with(latest, &entry);
         entries.push_reserved(entry);
     }

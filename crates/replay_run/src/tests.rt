@@ -123,16 +123,43 @@ fn plan_of(alloc: Global, rows: &[Row], options: &Options) -> Result<Plan, NoMem
     Plan::of(alloc, FREQ, &events, options)
 }
 
+// Which flags are given.
+#[derive(Clone, Copy)]
+struct Flags {
+    back: bool,
+    crank: bool,
+    utc: bool,
+}
+
+const PLAIN: Flags = Flags {
+    back: false,
+    crank: false,
+    utc: false,
+};
+
+const BACK: Flags = Flags {
+    back: true,
+    crank: false,
+    utc: false,
+};
+
+const ALL: Flags = Flags {
+    back: true,
+    crank: true,
+    utc: true,
+};
+
 // Two readers.
-fn options_of(ticks: u32, reads: u32, back: bool, crank: bool) -> Options
+fn options_of(ticks: u32, reads: u32, flags: Flags) -> Options
     ensures { AreOptionsInRange result }
 {
     Options {
         ticks: ticks.min(15),
         readers: 2,
         reads: reads.min(16384),
-        back,
-        crank,
+        back: flags.back,
+        crank: flags.crank,
+        utc: flags.utc,
     }
 }
 
@@ -199,7 +226,7 @@ fn plans_have_their_steps(rt: HostRuntime) -> Result<(), Fail> {
         ),
     ];
     for (told, ticks, wanted) in rows {
-        let plan = plan_of(rt.alloc(), told, &options_of(ticks, 3, true, false))?;
+        let plan = plan_of(rt.alloc(), told, &options_of(ticks, 3, BACK))?;
         assert_eq!(rt; plan.steps.len(), wanted.len());
         for (step, (to, word)) in plan.steps.iter().zip(wanted) {
             assert_eq!(rt; step.to, *to);
@@ -233,7 +260,7 @@ fn opened(alloc: Global, plan: &Plan) -> Result<(Desk, Vec<ReadLog>), NoMemory>
 
 #[test]
 fn logs_are_opened(rt: HostRuntime) -> Result<(), Fail> {
-    let plan = plan_of(rt.alloc(), &TWO, &options_of(1, 40, true, false))?;
+    let plan = plan_of(rt.alloc(), &TWO, &options_of(1, 40, BACK))?;
     let (desk, logs) = opened(rt.alloc(), &plan)?;
     assert_eq!(rt; desk.passes.len(), 0);
     assert_eq!(rt; logs.len(), 2);
@@ -290,16 +317,17 @@ fn is_by_its_tick(journal: &[Hands], r: &Reading) -> bool {
 #[test]
 fn plays_leave_journals_and_logs(rt: HostRuntime) -> Result<(), Fail> {
     let wanted = [0, 0, 1_000_100_000, 9_000_100_000, 17_000_100_000];
-    let kinds = [
-        Kind::Abs,
-        Kind::Mono,
-        Kind::Uptime,
-        Kind::Fast,
-        Kind::Diff,
-        Kind::Back,
+    // The kinds of seven attempts, for each choice of the two that are asked for, and after how many they come again.
+    let five = [Kind::Abs, Kind::Mono, Kind::Uptime, Kind::Fast, Kind::Diff];
+    let rows: [(bool, bool, &[Kind]); 4] = [
+        (false, false, &[]),
+        (true, false, &[Kind::Back]),
+        (false, true, &[Kind::Utc]),
+        (true, true, &[Kind::Back, Kind::Utc]),
     ];
-    for (back, crank) in [(false, false), (true, false), (false, true), (true, true)] {
-        let options = options_of(1, 25, back, crank);
+    for (row, crank) in rows.iter().flat_map(|row| [(row, false), (row, true)]) {
+        let (back, utc, more) = *row;
+        let options = options_of(1, 25, Flags { back, crank, utc });
         let (desk, logs) = played(&rt, rt.alloc(), &options, &OpenGate)?;
         let journal = desk.pen.journal();
         assert_eq!(rt; journal.len(), wanted.len());
@@ -307,13 +335,14 @@ fn plays_leave_journals_and_logs(rt: HostRuntime) -> Result<(), Fail> {
             assert!(rt; to <= hands.count && hands.count <= 17_000_100_000);
             assert!(rt; crank || hands.count == to);
         }
-        let turn = if back { 6 } else { 5 };
         assert_eq!(rt; logs.len(), 2);
         for log in &logs {
             assert!(rt; log.pass.is_none());
             assert_eq!(rt; log.entries.len(), 25);
             for (k, entry) in log.entries.iter().enumerate() {
-                assert!(rt; kinds.get(k % turn) == Some(&kind_of(entry)));
+                let place = k % (5 + more.len());
+                let kind = five.get(place).or(more.get(place.saturating_sub(5)));
+                assert!(rt; kind == Some(&kind_of(entry)));
                 if let Entry::Read(r) = entry {
                     assert!(rt; is_by_its_tick(journal, r));
                 }
@@ -370,7 +399,7 @@ fn readers_and_driver_run_at_the_same_time(rt: HostRuntime) -> Result<(), Fail> 
         driver: AtomicU64::new(0),
         missed: AtomicU64::new(0),
     };
-    let (desk, logs) = played(&rt, rt.alloc(), &options_of(4, 4, false, false), &gate)?;
+    let (desk, logs) = played(&rt, rt.alloc(), &options_of(4, 4, PLAIN), &gate)?;
     assert_eq!(rt; gate.missed.load(Ordering::SeqCst), 0);
     assert_eq!(rt; desk.pen.journal().len(), 8);
     for log in &logs {
@@ -421,7 +450,7 @@ fn the_gate_is_called_once_before_each_step_and_attempt(rt: HostRuntime) -> Resu
         done: [AtomicU64::new(0), AtomicU64::new(0)],
         wrong: AtomicU64::new(0),
     };
-    let (desk, _) = played(&rt, rt.alloc(), &options_of(4, 25, true, true), &gate)?;
+    let (desk, _) = played(&rt, rt.alloc(), &options_of(4, 25, ALL), &gate)?;
     assert_eq!(rt; desk.pen.journal().len(), 8);
     assert_eq!(rt; gate.wrong.load(Ordering::SeqCst), 0);
     assert_eq!(rt; gate.step.load(Ordering::SeqCst), 8);

@@ -41,10 +41,14 @@ mark_text word b = if b then word else []
 abbrev pub version_part : ℕ → List ℕ
 version_part version = mark_text (codes " version 2") (version == 2)
 
+-- which flags a replay has
+unfoldable pub flags_part : Bool → Bool → Bool → List ℕ
+flags_part back crank utc = mark_text (codes " back") back ++ mark_text (codes " crank") crank ++ mark_text (codes " utc") utc
+
 -- how many ticks, readers and attempts of each a replay has, and which flags
-unfoldable pub options_part : ℕ → ℕ → ℕ → Bool → Bool → List ℕ
-options_part ticks readers reads back crank = codes " ticks " ++ decimal ticks ++ codes " readers " ++ decimal readers ++ codes " reads "
-    ++ decimal reads ++ mark_text (codes " back") back ++ mark_text (codes " crank") crank
+unfoldable pub options_part : ℕ → ℕ → ℕ → Bool → Bool → Bool → List ℕ
+options_part ticks readers reads back crank utc = codes " ticks " ++ decimal ticks ++ codes " readers " ++ decimal readers ++ codes " reads "
+    ++ decimal reads ++ flags_part back crank utc
 
 -- the first line of a report
 unfoldable pub head_text : ReportHead → List ℕ
@@ -52,8 +56,8 @@ head_text (head.Stamps freq version) = codes "report stamps freq " ++ decimal fr
 head_text (head.Rtt freq version) = codes "report rtt freq " ++ decimal freq ++ version_part version ++ codes "\n"
 head_text (head.Estimate freq version) = codes "report estimate freq " ++ decimal freq ++ version_part version ++ codes "\n"
 head_text (head.Ticks freq ticks version) = codes "report ticks freq " ++ decimal freq ++ codes " ticks " ++ decimal ticks ++ version_part version ++ codes "\n"
-head_text (head.Replay freq ticks readers reads back crank version) = codes "report replay freq " ++ decimal freq
-    ++ options_part ticks readers reads back crank ++ version_part version ++ codes "\n"
+head_text (head.Replay freq ticks readers reads back crank utc version) = codes "report replay freq " ++ decimal freq
+    ++ options_part ticks readers reads back crank utc ++ version_part version ++ codes "\n"
 head_text (head.Run number count ideal) = codes "report run number " ++ decimal number ++ codes " count " ++ decimal count
     ++ mark_text (codes " ideal") ideal ++ codes "\n"
 

@@ -2,7 +2,7 @@
 // text does. Lines that a report has many of are made in a text that is lent to them, so that its bytes are
 // filled once for all of them.
 ghost use Rattle.std.specs.Prelude.{◌≡◌, ◌≤◌, ◌+◌, ◌++◌, length};
-ghost use Rattle.report_text.specs.Text.{version_part, options_part, head_text, server_part, stamp_text, base_text, time_part, spread_part, told_leaps_part, estimate_text, set_text, leap_text, clock_part, given_part, leap_part, tick_text, refused_text, summary_text, ideal_text, end_text, fault_text};
+ghost use Rattle.report_text.specs.Text.{version_part, flags_part, options_part, head_text, server_part, stamp_text, base_text, time_part, spread_part, told_leaps_part, estimate_text, set_text, leap_text, clock_part, given_part, leap_part, tick_text, refused_text, summary_text, ideal_text, end_text, fault_text};
 
 use crate::line::LineText;
 use crate::names::{add_how, add_marks, limit_name, refused_name, why_name};
@@ -44,10 +44,12 @@ pub enum ReportHead {
         ticks: u32,
         readers: u32,
         reads: u32,
-        /// Every sixth attempt converts a count of the past.
+        /// Attempts also convert a count of the past.
         back: bool,
         /// A crank raises the counter beside the one who winds.
         crank: bool,
+        /// Attempts also read `Utc`.
+        utc: bool,
         version: u32,
     },
     /// The summary of a run over so many made stamps, which a number tells.
@@ -122,6 +124,18 @@ fn add_version_part(line: &mut LineText, version: u32)
     line.mark(b" version 2", version == 2);
 }
 
+// Adds the flags of a replay.
+#[tactic(auto, unfolding(crate::specs::Text::flags_part))]
+fn add_flags_part(line: &mut LineText, back: bool, crank: bool, utc: bool)
+    requires { length line.old + 240 ≤ 640 }
+    ensures text { line.new ≡ flags_part back crank utc ++ line.old }
+    ensures short { length line.new ≤ length line.old + 20 }
+{
+    line.mark(b" utc", utc);
+    line.mark(b" crank", crank);
+    line.mark(b" back", back);
+}
+
 // Adds the options of a replay.
 #[tactic(auto, unfolding(crate::specs::Text::options_part))]
 fn add_options_part(
@@ -131,13 +145,13 @@ fn add_options_part(
     reads: u32,
     back: bool,
     crank: bool,
+    utc: bool,
 )
     requires { length line.old + 240 ≤ 640 }
-    ensures text { line.new ≡ options_part ticks readers reads back crank ++ line.old }
+    ensures text { line.new ≡ options_part ticks readers reads back crank utc ++ line.old }
     ensures short { length line.new ≤ length line.old + 200 }
 {
-    line.mark(b" crank", crank);
-    line.mark(b" back", back);
+    add_flags_part(line, back, crank, utc);
     line.number(u64::from(reads));
     line.word(b" reads ");
     line.number(u64::from(readers));
@@ -186,10 +200,11 @@ fn head(h: ReportHead) -> LineText
             reads,
             back,
             crank,
+            utc,
             version,
         } => {
             add_version_part(&mut line, version);
-            add_options_part(&mut line, ticks, readers, reads, back, crank);
+            add_options_part(&mut line, ticks, readers, reads, back, crank, utc);
             line.number(freq);
             line.word(b"report replay freq ");
         }

@@ -12,7 +12,7 @@ use Rattle.tick_reads.specs.Reads.{Reads}
 use Rattle.tick_reads.proofs.Runs.{opens_even, opens_light, opens_odd}
 use Rattle.tick_reads.proofs.Tells.{decides_read}
 use Rattle.tick_views.specs.declared.views.PassView.{PassView}
-use Rattle.tick_views.specs.Views.{scan_of, gained, turn_loaded, call_begun}
+use Rattle.tick_views.specs.Views.{scan_of, undecided, gained, turn_loaded, call_begun}
 use Rattle.tick_table.specs.Sees.{PassSees}
 use Rattle.tick_table.specs.Steps.{LearnsTurn}
 use Rattle.tick_laws.specs.Goes.{Calls, Answers, IsOpened, ask_of}
@@ -22,18 +22,25 @@ use Rattle.tick_laws.proofs.Reading.{rest_calls, rest_reads, once_reads, call_re
 use Rattle.tick_desk.specs.Answers.{Adds, BegunShows, Finishes, IsBegun, IsEntryBy, IsLate, IsLateBy, hands_of}
 use Rattle.tick_desk.specs.declared.reads.Answer.{Answer}
 
-adds_it : (old new : PassSees) (ask : Ask) (e : Entry) → new.table ≡ old.table → Calls old.view new.view ask new.view.loads
-    → Reads ask new.view.loads e → IsEntryBy (hands_of new.view) e → Adds old new ask e
-adds_it old new ask e table calls reads by = let is = decides_read ask new.view.loads e reads in let o = opens_with ask new.view.loads e is in record {
-  table = table;
-  calls = calls;
-  reads = reads;
-  by = by;
-  opening = o.opening;
-  rest = o.rest;
-  opens = o.opens;
-  entries = calls.entries ∙ (λ i. gained old.view.entries (is i) (o.first i));
-}
+adds_it : (old new : PassSees) (ask : Ask) (e : Entry)
+    → new.table ≡ old.table → Calls old.view new.view ask new.view.loads → Reads ask new.view.loads e → IsEntryBy (hands_of new.view) e
+    → Adds old new ask e
+adds_it old new ask e table calls reads by =
+    let is = decides_read ask new.view.loads e reads in
+    let o = opens_with ask new.view.loads e is in record {
+      table = table;
+      asked = calls.ask_is;
+      ended = calls.calling ∙ ap undecided is;
+      grows = calls.grows;
+      reads = reads;
+      by = by;
+      notes = record {
+        opening = o.opening;
+        rest = o.rest;
+        opens = o.opens;
+        entries = calls.entries ∙ (λ i. gained old.view.entries (is i) (o.first i));
+      };
+    }
 
 -- a call that its first load does not decide
 pub call_adds : (old mid new : PassSees) (ask : Ask) (w : ℕ) (e : Entry) → mid.view ≡ turn_loaded w (call_begun ask old.view) → LearnsTurn old.view w

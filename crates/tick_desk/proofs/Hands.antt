@@ -14,5 +14,9 @@ use Rattle.tick_desk.specs.Answers.{IsBy, hands_of}
 pub by_it : (v : PassView) (h : Hands) (fields : List ℕ) (k : Kind) (tick count : ℕ) (r : Reading) → (scan_of v).fields ≡ fields → h ≡ unpack fields
     → IsSoundAt tick h → MayRead k h.count count → count < 2 ^ 62 → r ≡ reading_at h tick k count → IsBy (hands_of v) r
 by_it v h fields k tick count r same is stands place small r-is =
-    subst (λ (z : Hands × Reading). IsBy z.0 z.1) (λ i. ((is ∙ ap unpack (sym same)) i, sym r-is i)) record { stands = stands; is = refl;
-    place = place; small = small }
+    subst (λ (z : Hands × Reading). IsBy z.0 z.1) (λ i. ((is ∙ ap unpack (sym same)) i, sym r-is i)) record {
+      stands = stands;
+      is = refl;
+      place = place;
+      small = small;
+    }

@@ -18,11 +18,14 @@ pub taken-legal : (p p' : PenView) (v : PassView) (ticks : List Hands) (top : �
     → p' ≡ pass_taken p v → LegalLogs p' → IsKeptLegal ticks top out (kept_of v)
 taken-legal p p' v ticks top out made holds is legal =
     let last : get_elem? p'.kept (length p.kept) ≡ some (kept_of v) = subst (λ (q : PenView). get_elem? q.kept (length p.kept) ≡ some (kept_of v))
-        (sym is) (at_last p.kept (kept_of v) (length p.kept) refl) in
+    (sym is) (at_last p.kept (kept_of v) (length p.kept) refl) in
     let closed : p'.winding ≡ false = ap (λ (q : PenView). q.winding) is ∙ holds.closed in
     subst (λ (x : List Hands × ℕ × Bool). IsKeptLegal x.0 x.1 x.2 (kept_of v))
-    (λ i. ((ap (λ (q : PenView). q.journal) is ∙ holds.journal) i, (ap (λ (q : PenView). q.top) is ∙ holds.top_is) i,
-        (ap (λ (q : PenView). q.out) is ∙ holds.out_is) i))
+    (λ i. (
+      (ap (λ (q : PenView). q.journal) is ∙ holds.journal) i,
+      (ap (λ (q : PenView). q.top) is ∙ holds.top_is) i,
+      (ap (λ (q : PenView). q.out) is ∙ holds.out_is) i,
+    ))
     (kept_legal p' (length p.kept) (kept_of v) legal closed last)
 
 -- and so is each that was taken in before: the journal that it is legal over has grown since

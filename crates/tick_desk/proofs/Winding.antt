@@ -21,7 +21,7 @@ use Rattle.clock_core.specs.Machines.{refusal, answer_by}
 use Rattle.clock_logs.specs.declared.noted.Kept.{Kept}
 use Rattle.tick_views.specs.declared.views.PenView.{PenView}
 use Rattle.tick_views.specs.Views.{turn_started, pen_counted}
-use Rattle.tick_views.specs.Worlds.{AllBelow}
+use Rattle.tick_views.specs.Worlds.{AllAtMost}
 use Rattle.tick_table.specs.Steps.{LearnsCounter}
 use Rattle.tick_table.proofs.Lists.{to_some}
 use Rattle.tick_desk.specs.Shows.{PenShows, PenHolds}
@@ -47,11 +47,19 @@ record Same (p q : PenView) (more : List ℕ) : Type 0 where
 
 counted-same : (b : Bool) (c : ℕ) (p : PenView) → Same p (counted_if b c p) (tested_if b c)
 counted-same true c p = record { journal = refl; winding = refl; top = refl; met = refl; out = refl; made = refl; kept = refl; counters = refl }
-counted-same false c p = record { journal = refl; winding = refl; top = refl; met = refl; out = refl; made = refl; kept = refl;
-    counters = sym (append-nil p.counters) }
+counted-same false c p = record {
+  journal = refl;
+  winding = refl;
+  top = refl;
+  met = refl;
+  out = refl;
+  made = refl;
+  kept = refl;
+  counters = sym (append-nil p.counters);
+}
 
 -- no value is above the front of a list where none is above the whole
-front-below : (c : ℕ) (xs ys : List ℕ) → AllBelow c (xs ++ ys) → AllBelow c xs
+front-below : (c : ℕ) (xs ys : List ℕ) → AllAtMost c (xs ++ ys) → AllAtMost c xs
 front-below c xs ys all i x e = all i x (at-front xs i e)
   where
     at-front : (xs : List ℕ) (i : ℕ) → get_elem? xs i ≡ some x → get_elem? (xs ++ ys) i ≡ some x
@@ -69,8 +77,17 @@ taken_parts false c s r e = (refl, taken_ahead c r e)
 
 -- the pen as contracts see it
 abbrev pub show : TableId → List Hands → ℕ → ℕ → Bool → ℕ → PenView → PenShows
-show table ticks spare top out made p = record { table = table; journal = ticks; spare = spare; counters = p.counters; top = top; met = p.met;
-    out = out; made = made; kept = p.kept }
+show table ticks spare top out made p = record {
+  table = table;
+  journal = ticks;
+  spare = spare;
+  counters = p.counters;
+  top = top;
+  met = p.met;
+  out = out;
+  made = made;
+  kept = p.kept;
+}
 
 module _ (p0 p1 : PenView) (ticks : List Hands) (top : ℕ) (out : Bool) (made : ℕ) (holds : PenHolds p0 ticks top out made) (last : Hands) (o : Order)
     (last-is : last ≡ newest ticks) where
@@ -108,14 +125,23 @@ module _ (p0 p1 : PenView) (ticks : List Hands) (top : ℕ) (out : Bool) (made :
   pub refused : (table table' : TableId) (spare : ℕ) (why : Refuse) → Tested p0 p1 last o (Some why) → table' ≡ table
       → Winds (old table spare) (show table' ticks spare top out made p1) o (Err why)
   refused table table' spare why t same = record {
-    tested = t.counter;
+    tested_at = t.counter;
     count = 0;
     tested_is = tested-shown (Some why) t table spare;
     count_is = λ n e. absurd (err_ok n why e);
     later = λ n e. absurd (err_ok n why e);
     answer = ap (answer_by (length ticks)) (t.answer ∙ ap (λ (h : Hands). refusal h t.counter o) last-is);
-    after = λ i. record { table = same i; journal = ticks; spare = spare; counters = tested-counters (Some why) t i; top = top;
-        met = (tested-same (Some why) t).met i; out = out; made = made; kept = (tested-same (Some why) t).kept i };
+    after = λ i. record {
+      table = same i;
+      journal = ticks;
+      spare = spare;
+      counters = tested-counters (Some why) t i;
+      top = top;
+      met = (tested-same (Some why) t).met i;
+      out = out;
+      made = made;
+      kept = (tested-same (Some why) t).kept i;
+    };
   }
     where
       err_ok : (n : ℕ) (why : Refuse) → Err why ≡ Ok n → ⊥
@@ -143,25 +169,25 @@ module _ (p0 p1 : PenView) (ticks : List Hands) (top : ℕ) (out : Bool) (made :
       home = λ e. learns.home (s.out ∙ e) ∙ s.top;
       reached = λ m h at. learns.reached m h (subst (λ (l : List Hands). get_elem? l m ≡ some h) (sym s.journal) at);
       small = learns.small;
-      later = front-below count p0.counters _ (subst (AllBelow count) s.counters learns.later);
+      later = front-below count p0.counters _ (subst (AllAtMost count) s.counters learns.later);
     }
 
     -- what was loaded for the test is not above the count
     tested-below : tests_counter last o ≡ true → t.counter ≤ count
     tested-below e = let is : p1 ≡ pen_counted t.counter p0 = t.view ∙ ap (λ z. counted_if z t.counter p0) e in
         learns.later (length p0.counters) t.counter (subst (λ (v : PenView). get_elem? v.counters (length p0.counters) ≡ some t.counter) (sym is)
-            (at_last p0.counters t.counter (length p0.counters) refl))
+        (at_last p0.counters t.counter (length p0.counters) refl))
 
     in_time : (z : Order) → o ≡ z → is_in_time last count z ≡ true
     in_time order.Plain e = refl
     in_time (order.Take est) e = let b = taken_parts (nat_le est.update_ffcount last.est.update_ffcount) (nat_lt t.counter est.update_ffcount) _ _
         (t.answer ∙ ap (refusal last t.counter) e) in
         let low : last.est.update_ffcount < est.update_ffcount = leb-false _ _ b.0 in
-            let high : est.update_ffcount ≤ t.counter = ltb-false _ _ b.1 in let up = tested-below (ap (tests_counter last) e ∙ ap not b.0) in
+        let high : est.update_ffcount ≤ t.counter = ltb-false _ _ b.1 in let up = tested-below (ap (tests_counter last) e ∙ ap not b.0) in
         ap₂ (λ x y. x && y) (le-true est.update_ffcount count (omega arith)) (lt-true last.est.update_ffcount est.update_ffcount low)
     in_time (order.Reset est) e = let c = taken_ahead (nat_lt t.counter est.update_ffcount) _ (t.answer ∙ ap (refusal last t.counter) e) in
         let high : est.update_ffcount ≤ t.counter = ltb-false _ _ c in let up = tested-below (ap (tests_counter last) e) in
-            le-true est.update_ffcount count (omega arith)
+        le-true est.update_ffcount count (omega arith)
 
     module _ (sane : is_sane o ≡ true) where
       pub fits_it : fits last count o ≡ true
@@ -195,7 +221,7 @@ module _ (p0 p1 : PenView) (ticks : List Hands) (top : ℕ) (out : Bool) (made :
             pub wound_it : (table table' : TableId) (spare spare' n : ℕ) → table' ≡ table → spare' ≡ spare - 1 → n ≡ length ticks
                 → Winds (old table spare) (show table' ticks' spare' top out made p3) o (Ok n)
             wound_it table table' spare spare' n same less number = let s = tested-same None t in record {
-              tested = t.counter;
+              tested_at = t.counter;
               count = count;
               tested_is = tested-shown None t table spare;
               count_is = λ m e. counter-shown p0 (old table spare) count holds.journal refl holds.top_is holds.out_is holds.legal learns-before;

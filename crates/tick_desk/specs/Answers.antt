@@ -1,5 +1,5 @@
 -- What passes answer, and what they note of it.
-use Rattle.std.specs.Prelude.{◌≡◌, ℕ, ◌+◌, ◌<◌, ◌≤◌, ◌^◌, ◌⊎◌, ⊤, List, [], ◌∷◌, ◌++◌, None, Some}
+use Rattle.std.specs.Prelude.{◌≡◌, ℕ, ◌+◌, ◌<◌, ◌≤◌, ◌^◌, ◌⊎◌, ⊤, false, List, [], ◌∷◌, ◌++◌, None, Some}
 use Rattle.ff_hands.specs.declared.hands.Hands.{Hands}
 use Rattle.clock_lines.specs.Readings.{reading_at}
 use Rattle.clock_lines.specs.Values.{MayRead}
@@ -18,7 +18,7 @@ use Rattle.tick_views.specs.declared.views.PassView.{PassView}
 use Rattle.tick_views.specs.Views.{scan_of, noted}
 use Rattle.tick_table.specs.Sees.{PassSees}
 use Rattle.tick_table.specs.Steps.{IsSoundAt}
-use Rattle.tick_laws.specs.Goes.{Calls, Answers, IsOpened, ask_of}
+use Rattle.tick_laws.specs.Goes.{Answers, Grows, IsOpened, ask_of}
 use Rattle.tick_desk.specs.declared.reads.Answer.{Answer}
 use Rattle.tick_desk.specs.declared.reads.Answer.TheVariants as answer
 use Rattle.tick_desk.specs.declared.convert.Converted.{Converted}
@@ -65,17 +65,23 @@ IsEntryBy h (entry.Again k first last) = ⊤
 IsEntryBy h (entry.TooOld count oldest) = ⊤
 IsEntryBy h (entry.Ahead count at) = ⊤
 
--- One call of a pass, which asks this: its loads, and no others of this pass, come to this entry,
--- and it is noted once with the turn value that the call loaded first
-pub record Adds (before after : PassSees) (ask : Ask) (e : Entry) : Type 0 where
-  pub table : after.table ≡ before.table
-  pub calls : Calls before.view after.view ask after.view.loads
-  pub reads : Reads ask after.view.loads e
-  pub by : IsEntryBy (hands_of after.view) e
+-- one more entry is noted, with the turn word that the call loaded first
+pub record Notes (before after : PassView) (e : Entry) : Type 0 where
   pub opening : ℕ
   pub rest : List Load
-  pub opens : after.view.loads ≡ Turn opening ∷ rest
-  pub entries : after.view.entries ≡ before.view.entries ++ noted e opening ∷ []
+  pub opens : after.loads ≡ Turn opening ∷ rest
+  pub entries : after.entries ≡ before.entries ++ noted e opening ∷ []
+
+-- One whole call of a pass, which asks this: its loads, and no others of this pass, come to this entry,
+-- a reading in it is by the hands of its tick, and it is noted once
+pub record Adds (before after : PassSees) (ask : Ask) (e : Entry) : Type 0 where
+  pub table : after.table ≡ before.table
+  pub asked : after.view.ask ≡ ask
+  pub ended : after.view.calling ≡ false
+  pub grows : Grows before.view after.view after.view.loads
+  pub reads : Reads ask after.view.loads e
+  pub by : IsEntryBy (hands_of after.view) e
+  pub notes : Notes before.view after.view e
 
 -- a read that looks at a mark is to be made again only where the mark is of a tick at least ten
 -- later

@@ -48,8 +48,17 @@ pub record PenHolds (p : PenView) (ticks : List Hands) (top : ℕ) (out : Bool) 
 
 -- the pen of a clock that was never set, with this room, these loads and what its raises answered
 abbrev pub new_pen : TableId → ℕ → List ℕ → List ℕ → PenShows
-new_pen table spare counters met = record { table = table; journal = cold ∷ []; spare = spare; counters = counters; top = 0; met = met; out = false;
-    made = 0; kept = [] }
+new_pen table spare counters met = record {
+  table = table;
+  journal = cold ∷ [];
+  spare = spare;
+  counters = counters;
+  top = 0;
+  met = met;
+  out = false;
+  made = 0;
+  kept = [];
+}
 
 -- so many new passes, with the numbers from one on, which have seen so many ticks and made no load
 abbrev pub new_passes : TableId → ℕ → ℕ → ℕ → List PassSees

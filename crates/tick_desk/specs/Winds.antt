@@ -13,7 +13,7 @@ use Rattle.clock_core.specs.declared.machine.Refuse.{Refuse}
 use Rattle.clock_core.specs.Machines.{refusal, answer_by, count_of}
 use Rattle.tick_views.specs.declared.views.PenView.{PenView}
 use Rattle.tick_views.specs.Views.{pen_counted}
-use Rattle.tick_views.specs.Worlds.{AllBelow}
+use Rattle.tick_views.specs.Worlds.{AllAtMost}
 use Rattle.tick_table.specs.Sees.{CrankSees}
 use Rattle.tick_table.specs.Steps.{LearnsCounter}
 use Rattle.tick_desk.specs.Shows.{PenShows}
@@ -52,7 +52,7 @@ pub record IsCounter (p : PenShows) (c : ℕ) : Type 0 where
   pub top : p.top ≤ c
   pub home : p.out ≡ false → c ≡ p.top
   pub reached : (newest p.journal).count ≤ c
-  pub later : AllBelow c p.counters
+  pub later : AllAtMost c p.counters
   pub small : c < 2 ^ 62
 
 abbrev pub tested_if : Bool → ℕ → List ℕ
@@ -89,10 +89,15 @@ pub record Lends (old new : PenShows) (crank : CrankSees) : Type 0 where
 -- One windup. The order is refused, or not, at the counter that is loaded for it, and the tick's
 -- count is the counter that is loaded last
 pub record Winds (old new : PenShows) (o : Order) (result : Result ℕ Refuse) : Type 0 where
-  pub tested : ℕ
+  -- the counter that the order was tested at; where its test loads none it is any number
+  pub tested_at : ℕ
+  -- the tick's count; where the order was refused it is any number
   pub count : ℕ
-  pub tested_is : tests_counter (newest old.journal) o ≡ true → IsCounter old tested
+  pub tested_is : tests_counter (newest old.journal) o ≡ true → IsCounter old tested_at
   pub count_is : (n : ℕ) → result ≡ Ok n → IsCounter old count
-  pub later : (n : ℕ) → result ≡ Ok n → tests_counter (newest old.journal) o ≡ true → tested ≤ count
-  pub answer : result ≡ answer_by (length old.journal) (refusal (newest old.journal) tested o)
-  pub after : new ≡ record (wound_by result old o count) { counters = old.counters ++ counters_by result (tests_counter (newest old.journal) o) tested count }
+  pub later : (n : ℕ) → result ≡ Ok n → tests_counter (newest old.journal) o ≡ true → tested_at ≤ count
+  pub answer : result ≡ answer_by (length old.journal) (refusal (newest old.journal) tested_at o)
+  pub after : new ≡ record (wound_by result old o count) {
+    counters = old.counters
+        ++ counters_by result (tests_counter (newest old.journal) o) tested_at count;
+  }

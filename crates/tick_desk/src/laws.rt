@@ -1,7 +1,7 @@
 // What holds of calls that are made in parts.
-ghost use Rattle.std.specs.Prelude.{◌≡◌, ◌∷◌, ◌+◌, ◌≤◌, ◌<◌, ◌^◌, ℕ, List, false, []};
+ghost use Rattle.std.specs.Prelude.{◌≡◌, ◌∷◌, ◌++◌, ◌+◌, ◌-◌, ◌≤◌, ◌<◌, ◌^◌, ℕ, List, length, false, []};
 ghost use Rattle.ff_hands.specs.declared.hands.Hands.{Hands};
-ghost use Rattle.clock_lines.specs.Readings.{reading_at};
+ghost use Rattle.clock_lines.specs.Readings.{newest, reading_at};
 ghost use Rattle.clock_lines.specs.Values.{MayRead};
 ghost use Rattle.clock_lines.specs.declared.readings.Entry.TheVariants as entry;
 ghost use Rattle.clock_lines.specs.declared.readings.Reading.{Reading};
@@ -9,10 +9,11 @@ ghost use Rattle.clock_logs.specs.Legal.{quick, way_of};
 ghost use Rattle.tick_table.specs.Steps.{IsSoundAt};
 ghost use Rattle.ff_hands.specs.Windups.{cold};
 ghost use Rattle.tick_desk.specs.Shows.{IsFresh, PenShows};
-ghost use Rattle.tick_desk.specs.Winds.{IsCounter};
+ghost use Rattle.tick_desk.specs.Winds.{IsCounter, ReadsNewest};
 ghost use Rattle.tick_desk.specs.declared.reads.Answer.TheVariants as answer;
 ghost use Rattle.clock_lines.specs.declared.readings.Entry.{Entry};
 ghost use Rattle.clock_lines.specs.declared.readings.Kind.{Kind};
+ghost use Rattle.clock_lines.specs.declared.readings.Kind.TheVariants as kind;
 ghost use Rattle.tick_reads.specs.declared.loads.Load.TheVariants.{Turn};
 ghost use Rattle.tick_laws.specs.Goes.{Calls, ask_of};
 ghost use Rattle.tick_table.specs.Sees.{PassSees};
@@ -49,4 +50,16 @@ pub fn fresh_desks_are_unused()
     ensures journal { (pen : PenShows) (passes : List PassSees) → IsFresh pen passes → pen.journal ≡ cold ∷ [] }
     ensures pen { (pen : PenShows) (passes : List PassSees) → IsFresh pen passes → (pen.top ≡ 0) × (pen.out ≡ false) × (pen.made ≡ 0) }
     ensures passes { (pen : PenShows) (passes : List PassSees) → IsFresh pen passes → passes ≡ [] }
+{}
+
+/// The law of a pen's reading of now: it is of the kind that was asked for, by the newest tick and its hands,
+/// at a counter that the pen may meet, or for `Fast` at the tick's own count. The pen keeps that counter
+/// behind those that it loaded before.
+pub fn pens_read_by_the_newest_tick()
+    ensures tick { (old new : PenShows) (k : Kind) (r : Reading) → ReadsNewest old new k r → r.tick ≡ length old.journal - 1 }
+    ensures is { (old new : PenShows) (k : Kind) (r : Reading) → ReadsNewest old new k r → r ≡ reading_at (newest old.journal) r.tick k r.count }
+    ensures fast { (old new : PenShows) (r : Reading) → ReadsNewest old new kind.Fast r → r.count ≡ (newest old.journal).count }
+    ensures abs { (old new : PenShows) (r : Reading) → ReadsNewest old new kind.Abs r → IsCounter old r.count × (new.counters ≡ old.counters ++ r.count ∷ []) }
+    ensures mono { (old new : PenShows) (r : Reading) → ReadsNewest old new kind.Mono r → IsCounter old r.count × (new.counters ≡ old.counters ++ r.count ∷ []) }
+    ensures uptime { (old new : PenShows) (r : Reading) → ReadsNewest old new kind.Uptime r → IsCounter old r.count × (new.counters ≡ old.counters ++ r.count ∷ []) }
 {}

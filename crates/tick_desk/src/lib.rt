@@ -25,7 +25,7 @@ pub use crank::Crank;
 pub use desk::Desk;
 pub use laws::{
     answers_are_bounded, beginnings_and_rests_are_reads, fresh_desks_are_unused,
-    readings_are_by_hands,
+    pens_read_by_the_newest_tick, readings_are_by_hands,
 };
 pub use note::Note;
 pub use pass::Pass;

@@ -5,8 +5,8 @@ ghost use Rattle.ff_hands.specs.Journals.{IsJournal, IsSound};
 ghost use Rattle.ff_hands.specs.declared.hands.Hands.{Hands};
 ghost use Rattle.clock_lines.specs.Readings.{newest};
 ghost use Rattle.tick_views.specs.Views.{kept_of, new_pass};
-ghost use Rattle.tick_views.specs.Worlds.{AllBelow};
-ghost use Rattle.tick_desk.specs.Answers.{IsReadable};
+ghost use Rattle.tick_views.specs.Worlds.{AllAtMost};
+ghost use Rattle.clock_core.specs.Machines.{ReadsNow};
 ghost use Rattle.tick_desk.specs.Shows.{new_pen};
 ghost use Rattle.tick_desk.specs.Winds.{IsCounter, Lends, ReadsNewest, Winds};
 ghost use Rattle.ff_hands.specs.Windups.{cold};
@@ -158,17 +158,17 @@ impl Pen {
     }
 
     /// What the clock reads now, by the newest tick: at the counter, which is loaded, or for `Fast`
-    /// at the tick's own count. It is never `Again`. The kind is not `Diff` or `Back`.
+    /// at the tick's own count. It is never `Again`. The kind is `Abs`, `Mono`, `Uptime` or `Fast`.
     pub fn read(&mut self, kind: Kind) -> Reading
-        requires { IsReadable kind }
+        requires { ReadsNow kind }
         ensures { ReadsNewest self.old self.new kind result }
     {
         let last = newest(&self.ticks);
         let counter = self.seat.load_counter();
         let count = match kind {
             Kind::Fast => last.count,
-            Kind::Diff | Kind::Back => unreachable!(),
-            Kind::Abs | Kind::Mono | Kind::Uptime | Kind::Utc => counter,
+            Kind::Diff | Kind::Back | Kind::Utc => unreachable!(),
+            Kind::Abs | Kind::Mono | Kind::Uptime => counter,
         };
         reading(kind, self.ticks.len() as u64 - 1, last, count)
     }
@@ -221,7 +221,7 @@ impl Pen {
         ensures after { self.new ≡
             record self.old { kept = self.old.kept ++ kept_of pass.view ∷ [] } }
         ensures legal { IsKeptLegal self.old.journal self.old.top self.old.out (kept_of pass.view) }
-        ensures counters { self.old.out ≡ false → AllBelow self.old.top pass.view.counters }
+        ensures counters { self.old.out ≡ false → AllAtMost self.old.top pass.view.counters }
         ensures all { (i : ℕ) (k : Kept) → slice_get self.new.kept i ≡ Some k →
             IsKeptLegal self.old.journal self.old.top self.old.out k }
         ensures once { IsOnce self.new.kept }

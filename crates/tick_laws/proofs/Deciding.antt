@@ -76,8 +76,15 @@ module _ (a b : PassView) (count first tick : ℕ) (fields : List ℕ) (x : ℕ)
 
       pub look_down : count ≤ h.count → tick ≢ 0 → tick + 9 ≢ first / 2 → GoesDown a b count first (tick - 1)
       look_down low nz more = let is-down = full_scan ∙ steps_down count first tick fields long (not_below low) nz more in
-          record { loads = look tick fields x; goes = g; at = record { calling = g.calling ∙ ap (λ (s : Scan). undecided s.answer) is-down;
-          ask = g.ask ∙ at.ask; scan = is-down } }
+          record {
+            loads = look tick fields x;
+            goes = g;
+            at = record {
+              calling = g.calling ∙ ap (λ (s : Scan). undecided s.answer) is-down;
+              ask = g.ask ∙ at.ask;
+              scan = is-down;
+            };
+          }
 
   module _ (learns : LearnsLook tick fields) (h : Hands) (is : h ≡ unpack fields) where
     its_hands : learns.0 ≡ h
@@ -143,13 +150,19 @@ module _ (a b : PassView) (count first : ℕ) (fields : List ℕ) (ask : a.ask �
 
 -- one part after another
 pub down_answers : (a b c : PassView) (count first tick : ℕ) (e : Entry) → GoesDown a b count first tick → Answers b c e → Answers a c e
-down_answers a b c count first tick e d s = record { loads = d.loads ++ s.loads;
-    goes = on_and_on a b c d.loads s.loads d.goes (ap (λ (z : Scan). z.answer) d.at.scan) s.goes; answer = s.answer }
+down_answers a b c count first tick e d s = record {
+  loads = d.loads ++ s.loads;
+  goes = on_and_on a b c d.loads s.loads d.goes (ap (λ (z : Scan). z.answer) d.at.scan) s.goes;
+  answer = s.answer;
+}
 
 pub down_down : (a b c : PassView) (count first tick tick' : ℕ) → GoesDown a b count first tick → GoesDown b c count first tick'
     → GoesDown a c count first tick'
-down_down a b c count first tick tick' d s = record { loads = d.loads ++ s.loads;
-    goes = on_and_on a b c d.loads s.loads d.goes (ap (λ (z : Scan). z.answer) d.at.scan) s.goes; at = s.at }
+down_down a b c count first tick tick' d s = record {
+  loads = d.loads ++ s.loads;
+  goes = on_and_on a b c d.loads s.loads d.goes (ap (λ (z : Scan). z.answer) d.at.scan) s.goes;
+  at = s.at;
+}
 
 -- a conversion begins
 pub begins_at : (v b : PassView) (count w : ℕ) → b ≡ turn_loaded w (call_begun (ask_back count) v) → IsAtTick b count w (w / 2)
@@ -180,6 +193,8 @@ pub whole_converts : (v b c : PassView) (count w : ℕ) (e : Entry) → b ≡ tu
 whole_converts v b c count w e is learns s = let began : Calls v b (ask_back count) (Turn w ∷ []) = subst
     (λ (z : PassView). Calls v z (ask_back count) (Turn w ∷ [])) (sym is) (opened_on v (ask_back count) w learns.seen) in
     let done = call_on v b c (ask_back count) (Turn w ∷ []) s.loads began refl s.goes in
-    let first-is : c.loads ≡ Turn w ∷ s.loads = done.loads in
-    (w, subst (λ ls. Converts count w ls e) (sym first-is) (explains count w s.loads e
-        (ap (decided (ask_back count)) (sym first-is) ∙ whole_decided v b c count w e is s)))
+    let first-is : c.loads ≡ Turn w ∷ s.loads = done.loads in (
+      w,
+      subst (λ ls. Converts count w ls e) (sym first-is) (explains count w s.loads e
+          (ap (decided (ask_back count)) (sym first-is) ∙ whole_decided v b c count w e is s)),
+    )

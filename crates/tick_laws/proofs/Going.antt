@@ -13,7 +13,7 @@ use Rattle.tick_views.specs.declared.views.MarkLoad.{MarkLoad}
 use Rattle.tick_views.specs.declared.views.PassView.{PassView}
 use Rattle.tick_views.specs.Views.{scan_of, undecided, gained, mark_load, settled, turn_loaded, counter_loaded, field_loaded, mark_loaded, call_begun}
 use Rattle.tick_table.specs.Steps.{LearnsHands, LearnsLater}
-use Rattle.tick_laws.specs.Goes.{marks_in, AllSince, AreLater, GoesOn, Calls, LearnsLook}
+use Rattle.tick_laws.specs.Goes.{marks_in, AllSince, AreLater, Grows, GoesOn, Calls, LearnsLook}
 
 turns-append : (ls ms : List Load) → turns_in (ls ++ ms) ≡ turns_in ls ++ turns_in ms
 turns-append [] ms = refl
@@ -74,36 +74,46 @@ loads_later ls ms a b = subst AreLater (sym (marks-append ls ms)) (both_later (m
 -- no further load
 pub stays : (v : PassView) → v.calling ≡ true → (scan_of v).answer ≡ None → GoesOn v v []
 stays v calling none-yet = record {
-  number = refl;
-  seen = le_refl v.seen;
+  grows = record {
+    number = refl;
+    seen = le_refl v.seen;
+    turns = sym (append-nil v.turns);
+    since = none_since v.seen;
+    counters = sym (append-nil v.counters);
+    marks = sym (append-nil v.marks);
+    aged = none_later;
+  };
   ask = refl;
   loads = sym (append-nil v.loads);
-  turns = sym (append-nil v.turns);
-  since = none_since v.seen;
-  counters = sym (append-nil v.counters);
-  marks = sym (append-nil v.marks);
-  aged = none_later;
   calling = calling ∙ ap undecided (sym none-yet);
   entries = ap (λ o. gained v.entries o (scan_of v).first) (sym none-yet);
 }
 
--- further loads after further loads
-pub on_and_on : (a b c : PassView) (ls ms : List Load) → GoesOn a b ls → (scan_of b).answer ≡ None → GoesOn b c ms → GoesOn a c (ls ++ ms)
-on_and_on a b c ls ms g none-yet h = record {
+-- what further loads leave after further loads
+grows_on : (a b c : PassView) (ls ms : List Load) → Grows a b ls → Grows b c ms → Grows a c (ls ++ ms)
+grows_on a b c ls ms g h = record {
   number = h.number ∙ g.number;
   seen = le_trans g.seen h.seen;
-  ask = h.ask ∙ g.ask;
-  loads = h.loads ∙ (ap (λ l. l ++ ms) g.loads ∙ append_assoc a.loads ls ms);
-  turns = h.turns ∙ (ap (λ l. l ++ turns_in ms) g.turns ∙ (append_assoc a.turns (turns_in ls) (turns_in ms)
-      ∙ ap (λ l. a.turns ++ l) (sym (turns-append ls ms))));
+  turns = h.turns ∙ (ap (λ l. l ++ turns_in ms) g.turns
+      ∙ (append_assoc a.turns (turns_in ls) (turns_in ms) ∙ ap (λ l. a.turns ++ l) (sym (turns-append ls ms))));
   since = loads_since a.seen b.seen ls ms g.seen g.since h.since;
   counters = h.counters ∙ (ap (λ l. l ++ counters_in ms) g.counters
       ∙ (append_assoc a.counters (counters_in ls) (counters_in ms) ∙ ap (λ l. a.counters ++ l) (sym (counters-append ls ms))));
-  marks = h.marks ∙ (ap (λ l. l ++ marks_in ms) g.marks ∙ (append_assoc a.marks (marks_in ls) (marks_in ms)
-      ∙ ap (λ l. a.marks ++ l) (sym (marks-append ls ms))));
+  marks = h.marks ∙ (ap (λ l. l ++ marks_in ms) g.marks
+      ∙ (append_assoc a.marks (marks_in ls) (marks_in ms) ∙ ap (λ l. a.marks ++ l) (sym (marks-append ls ms))));
   aged = loads_later ls ms g.aged h.aged;
+}
+
+-- further loads after further loads
+pub on_and_on : (a b c : PassView) (ls ms : List Load)
+    → GoesOn a b ls → (scan_of b).answer ≡ None → GoesOn b c ms → GoesOn a c (ls ++ ms)
+on_and_on a b c ls ms g none-yet h = record {
+  grows = grows_on a b c ls ms g.grows h.grows;
+  ask = h.ask ∙ g.ask;
+  loads = h.loads ∙ (ap (λ l. l ++ ms) g.loads ∙ append_assoc a.loads ls ms);
   calling = h.calling;
-  entries = h.entries ∙ ap (λ l. gained l (scan_of c).answer (scan_of c).first) (g.entries ∙ ap (λ o. gained a.entries o (scan_of b).first) none-yet);
+  entries = h.entries ∙ ap (λ l. gained l (scan_of c).answer (scan_of c).first)
+      (g.entries ∙ ap (λ o. gained a.entries o (scan_of b).first) none-yet);
 }
 
 -- one load
@@ -112,18 +122,12 @@ one_on : (v : PassView) (seen : ℕ) (turns counters : List ℕ) (marks : List M
     → AreLater (marks_in (l ∷ [])) → GoesOn v (settled v seen turns counters marks l (after v.ask (scan_of v) l)) (l ∷ [])
 one_on v seen turns counters marks l up since t c m later =
     let is : after v.ask (scan_of v) l ≡ run v.ask fresh (v.loads ++ l ∷ []) = sym (run-snoc v.ask fresh v.loads l) in record {
-  number = refl;
-  seen = up;
-  ask = refl;
-  loads = refl;
-  turns = t;
-  since = since;
-  counters = c;
-  marks = m;
-  aged = later;
-  calling = ap (λ (s : Scan). undecided s.answer) is;
-  entries = ap (λ (s : Scan). gained v.entries s.answer s.first) is;
-}
+      grows = record { number = refl; seen = up; turns = t; since = since; counters = c; marks = m; aged = later };
+      ask = refl;
+      loads = refl;
+      calling = ap (λ (s : Scan). undecided s.answer) is;
+      entries = ap (λ (s : Scan). gained v.entries s.answer s.first) is;
+    }
 
 pub field_on : (v : PassView) (f x : ℕ) → GoesOn v (field_loaded f x v) (Field (scan_of v).tick f x ∷ [])
 field_on v f x = one_on v v.seen v.turns v.counters v.marks (Field (scan_of v).tick f x) (le_refl v.seen) (none_since v.seen)
@@ -144,38 +148,32 @@ turn_on v w up = one_on v (w / 2 + 1) (v.turns ++ w ∷ []) v.counters v.marks (
 -- the first load of a call
 pub opened_on : (v : PassView) (ask : Ask) (w : ℕ) → 2 * v.seen ≤ w + 2 → Calls v (turn_loaded w (call_begun ask v)) ask (Turn w ∷ [])
 opened_on v ask w up = record {
-  number = refl;
-  seen = omega arith;
+  grows = record {
+    number = refl;
+    seen = omega arith;
+    turns = refl;
+    since = one_since v.seen w up;
+    counters = sym (append-nil v.counters);
+    marks = sym (append-nil v.marks);
+    aged = none_later;
+  };
   ask_is = refl;
   loads = refl;
-  turns = refl;
-  since = one_since v.seen w up;
-  counters = sym (append-nil v.counters);
-  marks = sym (append-nil v.marks);
-  aged = none_later;
   calling = refl;
   entries = refl;
 }
 
-pub call_on : (a b c : PassView) (ask : Ask) (ls ms : List Load) → Calls a b ask ls → decided ask ls ≡ None → GoesOn b c ms → Calls a c ask (ls ++ ms)
-call_on a b c ask ls ms g none-yet h = let scan : scan_of c ≡ run ask fresh (ls ++ ms) = λ i. run ((h.ask ∙ g.ask_is) i) fresh
-    ((h.loads ∙ ap (λ l. l ++ ms) g.loads) i) in record {
-  number = h.number ∙ g.number;
-  seen = le_trans g.seen h.seen;
-  ask_is = h.ask ∙ g.ask_is;
-  loads = h.loads ∙ ap (λ l. l ++ ms) g.loads;
-  turns = h.turns ∙ (ap (λ l. l ++ turns_in ms) g.turns ∙ (append_assoc a.turns (turns_in ls) (turns_in ms)
-      ∙ ap (λ l. a.turns ++ l) (sym (turns-append ls ms))));
-  since = loads_since a.seen b.seen ls ms g.seen g.since h.since;
-  counters = h.counters ∙ (ap (λ l. l ++ counters_in ms) g.counters
-      ∙ (append_assoc a.counters (counters_in ls) (counters_in ms) ∙ ap (λ l. a.counters ++ l) (sym (counters-append ls ms))));
-  marks = h.marks ∙ (ap (λ l. l ++ marks_in ms) g.marks ∙ (append_assoc a.marks (marks_in ls) (marks_in ms)
-      ∙ ap (λ l. a.marks ++ l) (sym (marks-append ls ms))));
-  aged = loads_later ls ms g.aged h.aged;
-  calling = h.calling ∙ ap (λ (s : Scan). undecided s.answer) scan;
-  entries = h.entries ∙ ((λ i. gained (g.entries i) (scan i).answer (scan i).first)
-      ∙ ap (λ o. gained (gained a.entries o (run ask fresh ls).first) (decided ask (ls ++ ms)) (run ask fresh (ls ++ ms)).first) none-yet);
-}
+pub call_on : (a b c : PassView) (ask : Ask) (ls ms : List Load)
+    → Calls a b ask ls → decided ask ls ≡ None → GoesOn b c ms → Calls a c ask (ls ++ ms)
+call_on a b c ask ls ms g none-yet h =
+    let scan : scan_of c ≡ run ask fresh (ls ++ ms) = λ i. run ((h.ask ∙ g.ask_is) i) fresh ((h.loads ∙ ap (λ l. l ++ ms) g.loads) i) in record {
+      grows = grows_on a b c ls ms g.grows h.grows;
+      ask_is = h.ask ∙ g.ask_is;
+      loads = h.loads ∙ ap (λ l. l ++ ms) g.loads;
+      calling = h.calling ∙ ap (λ (s : Scan). undecided s.answer) scan;
+      entries = h.entries ∙ ((λ i. gained (g.entries i) (scan i).answer (scan i).first)
+          ∙ ap (λ o. gained (gained a.entries o (run ask fresh ls).first) (decided ask (ls ++ ms)) (run ask fresh (ls ++ ms)).first) none-yet);
+    }
 
 -- a look that has loaded some fields
 module _ (a b : PassView) (tick : ℕ) (xs : List ℕ) (at : scan_of a ≡ scan_at (scan_of a).first tick false [] []) (g : GoesOn a b (fields_from tick 0 xs)) where
@@ -192,13 +190,13 @@ module _ (a b : PassView) (tick : ℕ) (xs : List ℕ) (at : scan_of a ≡ scan_
   one_field c f x next is = let none-yet : (scan_of b).answer ≡ None = ap (λ (s : Scan). s.answer) fields_at in let place : f ≡ 0 + length xs = omega arith in
       let load : Field (scan_of b).tick f x ∷ [] ≡ Field tick (0 + length xs) x ∷ [] = λ i. Field (sym at_tick i) (place i) x ∷ [] in
       let step : GoesOn b c (Field tick (0 + length xs) x ∷ []) = subst (λ (z : PassView × List Load). GoesOn b z.0 z.1) (λ i. (sym is i, load i))
-          (field_on b f x) in
+      (field_on b f x) in
       subst (GoesOn a c) (fields_from-snoc tick 0 xs x) (on_and_on a b c (fields_from tick 0 xs) (Field tick (0 + length xs) x ∷ []) g none-yet step)
 
   pub the_mark : (c : PassView) (x : ℕ) → c ≡ mark_loaded x b → LearnsLater (scan_of b) x → GoesOn a c (look tick xs x)
   the_mark c x is later = let none-yet : (scan_of b).answer ≡ None = ap (λ (s : Scan). s.answer) fields_at in
       let step : GoesOn b c (Mark tick x ∷ []) = subst (λ (z : PassView × List Load). GoesOn b z.0 z.1)
-          (λ i. (sym is i, Mark (sym at_tick i) x ∷ [])) (mark_on b x later) in
+      (λ i. (sym is i, Mark (sym at_tick i) x ∷ [])) (mark_on b x later) in
       on_and_on a b c (fields_from tick 0 xs) (Mark tick x ∷ []) g none-yet step
 
   pub learns_look : (x : ℕ) → length xs ≡ 15 → LearnsHands (scan_of b) x → x ≡ full_mark tick → LearnsLook tick xs

@@ -24,7 +24,7 @@ use Rattle.clock_logs.specs.Logs.{IsAgain, IsEntry, tick_shown, newest_by, count
 use Rattle.clock_logs.proofs.Places.{counts-rise}
 use Rattle.tick_reads.specs.Ways.{needs_even, count_by}
 use Rattle.tick_views.specs.declared.views.PenView.{PenView}
-use Rattle.tick_views.specs.Worlds.{World, NeverFall, opening_of, IsTimely, FitsCount, FitsRead, MetWindup, LostSlot, FitsAgain, FitsEntry, count_if, counts_in, counts_of, FitsLog, FitsKept, AllBelow, or_else}
+use Rattle.tick_views.specs.Worlds.{World, NeverFall, opening_of, IsTimely, FitsCount, FitsRead, MetWindup, LostSlot, FitsAgain, FitsEntry, count_if, counts_in, counts_of, FitsLog, FitsKept, AllAtMost, or_else}
 use Rattle.tick_views.proofs.Grow.{in_list}
 use Rattle.tick_views.proofs.Loads.{there}
 use Rattle.tick_table.specs.Rule.{world_of}
@@ -130,8 +130,13 @@ module _ (w : World) (legal : IsJournal w.journal) (closed : w.turn ≡ 2 * (len
     read_within kind.Back x f e = counted given x e (timely_within n given (in_list w.journal n h at) f.1)
 
   read_legal : (o : ℕ) (r : Reading) → FitsRead w o r → IsReading w.journal r
-  read_legal o r f = subst (IsReading w.journal) (sym f.is) record { hands = f.hands; tick = to_Some w.journal r.tick f.hands f.at; time = refl;
-      bound = refl; place = placed f.ask.given r.tick f.hands f.counter f.at f.ask.kind f.count }
+  read_legal o r f = subst (IsReading w.journal) (sym f.is) record {
+    hands = f.hands;
+    tick = to_Some w.journal r.tick f.hands f.at;
+    time = refl;
+    bound = refl;
+    place = placed f.ask.given r.tick f.hands f.counter f.at f.ask.kind f.count;
+  }
 
   crossed_legal : (o first last : ℕ) → MetWindup w o first last → logs.Crossed w.journal first last
   crossed_legal o first last f = let below : last ≤ w.turn = f.1 in record {
@@ -155,8 +160,15 @@ module _ (w : World) (legal : IsJournal w.journal) (closed : w.turn ≡ 2 * (len
   entry_legal : (o : ℕ) (e : Entry) → o ≤ w.turn → FitsEntry w o e → IsEntry w.journal e
   entry_legal o (Read r) began f = read_legal o r f
   entry_legal o (Again k a b) began f = again_legal (way_of k) o a b began f
-  entry_legal o (TooOld c a) began f = record { tick = f.tick; some = f.some_tick; hands = f.hands; at = to_Some w.journal f.tick f.hands f.at;
-      oldest_is = f.is; not_after = f.not_after; made = let there = f.reached in let later = f.later in omega arith }
+  entry_legal o (TooOld c a) began f = record {
+    tick = f.tick;
+    some = f.some_tick;
+    hands = f.hands;
+    at = to_Some w.journal f.tick f.hands f.at;
+    oldest_is = f.is;
+    not_after = f.not_after;
+    made = let there = f.reached in let later = f.later in omega arith;
+  }
   entry_legal o (Ahead c a) began f = f
 
   entry_within : (o : ℕ) (e : Entry) (x : ℕ) → FitsEntry w o e → ((c : ℕ) → count_shown e ≡ Some c → c ≤ w.counter) → count_reached e ≡ Some x → x ≤ w.counter
@@ -211,8 +223,8 @@ module _ (w : World) (log : List Noted) (f : FitsLog w log) where
           (entry_legal w legal closed some-tick bound reached n.0.opening n.0.entry (f.below k n.0.opening (opening_at log k n.0 n.1)) (f.each k n.0 n.1));
       ticks_rise = λ i j x y d e less a b p q. let m = noted_at log i d a in let n = noted_at log j e b in
           ticks_in_order x y m.0.opening n.0.opening (tick_since w.journal m.0.entry m.0.opening x
-              (entry_since w m.0.opening m.0.entry (f.each i m.0 m.1)) (ap tick_shown m.2 ∙ p))
-              (tick_since w.journal n.0.entry n.0.opening y (entry_since w n.0.opening n.0.entry (f.each j n.0 n.1)) (ap tick_shown n.2 ∙ q))
+          (entry_since w m.0.opening m.0.entry (f.each i m.0 m.1)) (ap tick_shown m.2 ∙ p))
+          (tick_since w.journal n.0.entry n.0.opening y (entry_since w n.0.opening n.0.entry (f.each j n.0 n.1)) (ap tick_shown n.2 ∙ q))
           (opened_in_order i j m.0 n.0 less m.1 n.1);
       counts_rise = λ i j x y d e less a b p q. let m = noted_at log i d a in let n = noted_at log j e b in
           counts_at log f.counts_rise i j x y m.0 n.0 less m.1 n.1 (ap count_shown m.2 ∙ p) (ap count_shown n.2 ∙ q);
@@ -226,7 +238,7 @@ module _ (w : World) (log : List Noted) (f : FitsLog w log) where
 pub kept_legal : (p : PenView) (i : ℕ) (k : Kept) → LegalLogs p → p.winding ≡ false → get_elem? p.kept i ≡ some k → IsKeptLegal p.journal p.top p.out k
 kept_legal p i k l unwound at =
     let n : ℕ = length p.journal - 1 in
-    let w : World = world_of l.words p n in
+    let w : World = world_of l.stood p n in
     let fits : FitsKept w k = l.each i k at in
     let some-tick : 0 < length p.journal = in_list p.journal 0 cold (to_some p.journal 0 cold l.journal.first) in
     let closed : w.turn ≡ 2 * (length p.journal - 1) = ap (λ b. 2 * n + cond b 1 0) unwound ∙ (let e : 2 * n + 0 ≡ 2 * n = omega arith in e) in
@@ -237,6 +249,6 @@ kept_legal p i k l unwound at =
       legal = log_legal w k.entries fits.log l.journal closed some-tick bound (l.reached unwound);
       since = log_since w k.entries fits.log;
       small = λ j x e here is. let up = within j x e here is in omega arith;
-      counters = λ home. subst (λ c. AllBelow c k.counters) (l.home home) fits.counters;
+      counters = λ home. subst (λ c. AllAtMost c k.counters) (l.home home) fits.counters;
       within = λ home. subst (λ c. AreWithin c (map entry_of k.entries)) (l.home home) within;
     }

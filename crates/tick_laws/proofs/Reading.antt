@@ -164,7 +164,7 @@ rest_calls old mid new ask first e calls none s =
 opened_reads : (a b : PassView) (ask : Ask) (first : ℕ) (e : Entry) → a.ask ≡ ask → a.loads ≡ Turn first ∷ [] → Answers a b e → Reads ask b.loads e
 opened_reads a b ask first e is began s = let loads : b.loads ≡ Turn first ∷ s.loads = s.goes.loads ∙ ap (λ l. l ++ s.loads) began in
     subst (λ l. Reads ask l e) (sym loads) (explains_loads ask (Turn first ∷ s.loads) e
-        ((λ i. (run (sym (s.goes.ask ∙ is) i) fresh (sym loads i)).answer) ∙ s.answer))
+    ((λ i. (run (sym (s.goes.ask ∙ is) i) fresh (sym loads i)).answer) ∙ s.answer))
 
 pub rest_reads : (v new : PassView) (ask : Ask) (first : ℕ) (e : Entry) → IsOpened v ask first → Answers v new e → Reads ask new.loads e
 rest_reads v new ask first e opened s = opened_reads v new ask first e opened.ask_is opened.loads s

@@ -41,31 +41,31 @@ AllSince seen xs = (i x : ℕ) → get_elem? xs i ≡ some x → 2 * seen ≤ x 
 abbrev pub AreLater : List MarkLoad → Type 0
 AreLater xs = (i : ℕ) (l : MarkLoad) → get_elem? xs i ≡ some l → l.mark ≢ full_mark l.tick → 2 * l.tick + 21 ≤ l.mark
 
--- a call that stands open makes these further loads, and gains the entry that they decide
-pub record GoesOn (before after : PassView) (ls : List Load) : Type 0 where
+-- What loads leave of a pass. It keeps its number and has seen no fewer ticks, and behind all that it ever loaded stand
+-- the turn words, the counters and the marks of these loads: each turn word is of the newest tick that it had seen or of
+-- a later one, and each mark its tick's own or that of a tick at least ten later
+pub record Grows (before after : PassView) (ls : List Load) : Type 0 where
   pub number : after.number ≡ before.number
   pub seen : before.seen ≤ after.seen
-  pub ask : after.ask ≡ before.ask
-  pub loads : after.loads ≡ before.loads ++ ls
   pub turns : after.turns ≡ before.turns ++ turns_in ls
   pub since : AllSince before.seen (turns_in ls)
   pub counters : after.counters ≡ before.counters ++ counters_in ls
   pub marks : after.marks ≡ before.marks ++ marks_in ls
   pub aged : AreLater (marks_in ls)
+
+-- a call that stands open makes these further loads, and gains the entry that they decide
+pub record GoesOn (before after : PassView) (ls : List Load) : Type 0 where
+  pub grows : Grows before after ls
+  pub ask : after.ask ≡ before.ask
+  pub loads : after.loads ≡ before.loads ++ ls
   pub calling : after.calling ≡ undecided (scan_of after).answer
   pub entries : after.entries ≡ gained before.entries (scan_of after).answer (scan_of after).first
 
 -- a call with this ask makes these loads, and gains the entry that they decide
 pub record Calls (before after : PassView) (ask : Ask) (ls : List Load) : Type 0 where
-  pub number : after.number ≡ before.number
-  pub seen : before.seen ≤ after.seen
+  pub grows : Grows before after ls
   pub ask_is : after.ask ≡ ask
   pub loads : after.loads ≡ ls
-  pub turns : after.turns ≡ before.turns ++ turns_in ls
-  pub since : AllSince before.seen (turns_in ls)
-  pub counters : after.counters ≡ before.counters ++ counters_in ls
-  pub marks : after.marks ≡ before.marks ++ marks_in ls
-  pub aged : AreLater (marks_in ls)
   pub calling : after.calling ≡ undecided (decided ask ls)
   pub entries : after.entries ≡ gained before.entries (decided ask ls) (run ask fresh ls).first
 

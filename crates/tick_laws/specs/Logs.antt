@@ -3,7 +3,7 @@ use Rattle.std.specs.Prelude.{◌≡◌, ℕ, ◌-◌, ◌^◌, ◌≤◌, Bool,
 use Rattle.ff_hands.specs.declared.hands.Hands.{Hands}
 use Rattle.clock_logs.specs.declared.noted.Kept.{Kept}
 use Rattle.clock_logs.specs.Logs.{IsLog, AreSince, AreWithin, entry_of}
-use Rattle.tick_views.specs.Worlds.{AllBelow}
+use Rattle.tick_views.specs.Worlds.{AllAtMost}
 
 -- Its log is legal over these ticks, and each entry of it is current at its opening value. The
 -- counts that its entries show the counter to have reached are below 2^62, and while no crank is
@@ -13,5 +13,5 @@ pub record IsKeptLegal (ticks : List Hands) (top : ℕ) (out : Bool) (k : Kept) 
   pub legal : IsLog ticks (map entry_of k.entries)
   pub since : AreSince ticks k.entries
   pub small : AreWithin (2 ^ 62 - 1) (map entry_of k.entries)
-  pub counters : out ≡ false → AllBelow top k.counters
+  pub counters : out ≡ false → AllAtMost top k.counters
   pub within : out ≡ false → AreWithin top (map entry_of k.entries)

@@ -42,13 +42,13 @@ decides given w loads e (crossed ls fields counter turn p even up other) =
     ∙ (ap (λ s. after (ask_back given) (after (ask_back given) s (Counter counter)) (Turn turn)) (past_run given w ls fields p even)
     ∙ (ap (λ s. after (ask_back given) s (Turn turn)) (reaches given w (w / 2) fields counter up)
     ∙ ap (λ b. ends (Some (at_turn b (ask_back given) (scan_at w (w / 2) true fields (counter ∷ [])) turn))
-        (scan_at w (w / 2) true fields (counter ∷ []))) (ne_eqb turn w other))))
+    (scan_at w (w / 2) true fields (counter ∷ []))) (ne_eqb turn w other))))
 decides given w loads e (newest ls fields counter p even up) =
     ap (λ (s : Scan). s.answer) (run-append (ask_back given) fresh ls (Counter counter ∷ Turn w ∷ [])
     ∙ (ap (λ s. after (ask_back given) (after (ask_back given) s (Counter counter)) (Turn w)) (past_run given w ls fields p even)
     ∙ (ap (λ s. after (ask_back given) s (Turn w)) (reaches given w (w / 2) fields counter up)
     ∙ ap (λ b. ends (Some (at_turn b (ask_back given) (scan_at w (w / 2) true fields (counter ∷ [])) w))
-        (scan_at w (w / 2) true fields (counter ∷ []))) (eq-eqb w w refl))))
+    (scan_at w (w / 2) true fields (counter ∷ []))) (eq-eqb w w refl))))
 decides given w loads e (older ls fields m l near less) = ap (λ (s : Scan). s.answer)
     (looks_run given w m ls fields _ l ∙ finds_older given w m fields l.long less (λ same. omega arith))
 decides given w loads e (oldest ls fields l low) = ap (λ (s : Scan). s.answer) (looks_run given w 0 ls fields _ l ∙ finds_zero given w 0 fields l.long low refl)
@@ -97,14 +97,19 @@ module _ (given w : ℕ) where
     next_field t f x true true e g = let tick : t ≡ m = eqb-true t m e in let place : f ≡ 0
         + length fields = (let p = eqb-true f (length fields) g in omega arith) in
         let list : so_far ++ Field t f x ∷ [] ≡ before ++ fields_from m 0 (fields ++ x ∷ []) = (λ i. so_far ++ Field (tick i) (place i) x ∷ [])
-            ∙ (append_assoc before (fields_from m 0 fields) (Field m (0 + length fields) x ∷ []) ∙ ap (λ l. before ++ l) (fields_from-snoc m 0 fields x)) in
+        ∙ (append_assoc before (fields_from m 0 fields) (Field m (0 + length fields) x ∷ []) ∙ ap (λ l. before ++ l) (fields_from-snoc m 0 fields x)) in
         let scan : field_on s t f x ≡ scan_at w m false (fields ++ x ∷ []) [] = λ i. record (scan_at w m false (fields ++ x ∷ []) []) { good = e i && g i } in
         subst (λ (z : List Load × Scan). GoesOn z.0 z.1) (λ i. (sym list i, sym scan i)) (go_further _ _ (looking m before (fields ++ x ∷ []) d))
 
     module _ (t x : ℕ) (tick : t ≡ m) (long : length fields ≡ 15) where
       looks : Looks given w m (so_far ++ Mark t x ∷ []) fields x
-      looks = record { before = before; down = d; is = ap (λ n. so_far ++ Mark n x ∷ []) tick
-          ∙ append_assoc before (fields_from m 0 fields) (Mark m x ∷ []); long = long }
+      looks = record {
+        before = before;
+        down = d;
+        is = ap (λ n. so_far ++ Mark n x ∷ []) tick
+            ∙ append_assoc before (fields_from m 0 fields) (Mark m x ∷ []);
+        long = long;
+      }
 
       module _ (mark : x ≡ full_mark m) where
         list_is : so_far ++ Mark t x ∷ [] ≡ before ++ look m fields (full_mark m)
@@ -137,11 +142,11 @@ module _ (given w : ℕ) where
             + 9 ≢ w / 2 = λ e. true≢false (sym (eq-eqb (m + 9) (w / 2) e) ∙ last) in
             let up : suc (m - 1) ≡ m = omega arith in
             let list : before ++ look (suc (m - 1)) fields (full_mark (suc (m - 1))) ≡ so_far ++ Mark t x
-                ∷ [] = ap (λ n. before ++ look n fields (full_mark n)) up ∙ sym list_is in
+            ∷ [] = ap (λ n. before ++ look n fields (full_mark n)) up ∙ sym list_is in
             let next : Down given w (m - 1) (before ++ look (suc (m - 1)) fields (full_mark (suc (m - 1)))) = goes (m - 1) before fields
-                (subst (λ n. Down given w n before) (sym up) d) long low (λ e. omega arith) in
+            (subst (λ n. Down given w n before) (sym up) d) long low (λ e. omega arith) in
             go_further _ _ (subst (λ l. Stage given w l (scan_at w (m - 1) false [] [])) (append_none (so_far ++ Mark t x ∷ []))
-                (looking (m - 1) _ [] (subst (Down given w (m - 1)) list next)))
+            (looking (m - 1) _ [] (subst (Down given w (m - 1)) list next)))
 
         at_count : (a : Bool) → nat_lt (unpack fields).count given ≡ a → GoesOn (so_far ++ Mark t x ∷ []) (looks_at a (ask_back given) s)
         at_count true less = at_line (m == w / 2) refl (ltb-true _ _ less)

@@ -44,7 +44,7 @@ no_end : (s : Scan) → IsLost full s → (has_fields s && (length s.counters ==
 no_end s lost = ⊎_elim (λ (bad : s.good ≡ false). λ i. bad i && (length s.fields == 15) && (length s.counters == 1))
     (λ (z : (15 < length s.fields) ⊎ (1 < length s.counters)). ⊎_elim
     (λ (long : 15 < length s.fields). (λ i. s.good && ne_eqb (length s.fields) 15 (λ e. omega arith) i && (length s.counters == 1))
-        ∙ ap (λ b. b && (length s.counters == 1)) (false_and s.good))
+    ∙ ap (λ b. b && (length s.counters == 1)) (false_and s.good))
     (λ (two : 1 < length s.counters). ap (λ b. has_fields s && b) (ne_eqb (length s.counters) 1 (λ e. omega arith)) ∙ false_and (has_fields s)) z) lost
 
 longer : (n x : ℕ) (xs : List ℕ) → n < length xs → n < length (xs ++ x ∷ [])
@@ -59,14 +59,14 @@ module _ (ask : Ask) where
     refl,
     ⊎_elim (λ (bad : s.good ≡ false). inl (λ i. bad i && not s.line && (t == s.tick) && (f == length s.fields)))
         (λ (z : (15 < length s.fields) ⊎ (1 < length s.counters)). ⊎_elim (λ (long : 15 < length s.fields). inr (inl (longer 15 x s.fields long)))
-            (λ (two : 1 < length s.counters). inr (inr two)) z) lost,
+        (λ (two : 1 < length s.counters). inr (inr two)) z) lost,
   )
   stays_lost full e s begun lost (Counter x) = (
     refl,
     refl,
     ⊎_elim (λ (bad : s.good ≡ false). inl (λ i. bad i && (length s.fields == 15)))
         (λ (z : (15 < length s.fields) ⊎ (1 < length s.counters)). ⊎_elim (λ (long : 15 < length s.fields). inr (inl long))
-            (λ (two : 1 < length s.counters). inr (inr (longer 1 x s.counters two))) z) lost,
+        (λ (two : 1 < length s.counters). inr (inr (longer 1 x s.counters two))) z) lost,
   )
   stays_lost full e s begun lost (Mark t x) = (refl, refl, inl refl)
   stays_lost quick e s begun lost (Turn x) = (refl, refl, refl)
@@ -122,7 +122,7 @@ module _ (ask : Ask) where
         goes_to_end before s (l ∷ k ∷ ls) e st is = ⊎_elim (λ (st' : Stage (before ++ l ∷ []) (after ask s l)). subst (λ z. Law z e)
             (append_assoc before (l ∷ []) (k ∷ ls)) (goes_to_end (before ++ l ∷ []) (after ask s l) (k ∷ ls) e st' is))
             (λ (o : IsOver (before ++ l ∷ []) (after ask s l)). absurd (no_more (after ask (after ask s l) k) ls e
-                (subst (IsOut y) (sym (by_way y ask way (after ask s l) o.0 k)) (stays_lost y way (after ask s l) o.0 o.1 k)) is)) (step before s st l)
+            (subst (IsOut y) (sym (by_way y ask way (after ask s l) o.0 k)) (stays_lost y way (after ask s l) o.0 o.1 k)) is)) (step before s st l)
 
 -- a call that does not begin with the turn word has no answer
 lost_at_once : (y : Way) (s : Scan) → s.good ≡ false → IsLost y s

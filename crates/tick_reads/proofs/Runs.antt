@@ -28,8 +28,10 @@ lt-false a b h = grind arith
 -- a field more
 pub fields_on : (ask : Ask) (w m f x : ℕ) (fields counters : List ℕ) → f ≡ length fields
     → after ask (scan_at w m false fields counters) (Field m f x) ≡ scan_at w m false (fields ++ x ∷ []) counters
-fields_on ask w m f x fields counters next = λ i. record (scan_at w m false (fields ++ x ∷ []) counters) { good = eq-eqb m m refl i
-    && eq-eqb f (length fields) next i }
+fields_on ask w m f x fields counters next = λ i. record (scan_at w m false (fields ++ x ∷ []) counters) {
+  good = eq-eqb m m refl i
+      && eq-eqb f (length fields) next i;
+}
 
 -- a mark, for each of its answers
 module _ (given w m : ℕ) (fields : List ℕ) (long : length fields ≡ 15) where
@@ -109,7 +111,7 @@ run_fields ask w m fields [] = ap (λ l. scan_at w m false l []) (sym (append_no
 run_fields ask w m fields (x ∷ xs) = let longer : length fields + 1 ≡ length (fields ++ x ∷ []) = omega (arith, length-append fields (x ∷ [])) in
     ap (λ s. run ask s (fields_from m (length fields + 1) xs)) (fields_on ask w m (length fields) x fields [] refl)
     ∙ (ap (λ f. run ask (scan_at w m false (fields ++ x ∷ []) []) (fields_from m f xs)) longer
-        ∙ (run_fields ask w m (fields ++ x ∷ []) xs ∙ ap (λ l. scan_at w m false l []) (append_assoc fields (x ∷ []) xs)))
+    ∙ (run_fields ask w m (fields ++ x ∷ []) xs ∙ ap (λ l. scan_at w m false l []) (append_assoc fields (x ∷ []) xs)))
 
 pub run_look : (given w m : ℕ) (fields : List ℕ) (x : ℕ) → run (ask_back given) (scan_at w m false [] []) (look m fields x) ≡ after (ask_back given)
     (scan_at w m false fields []) (Mark m x)

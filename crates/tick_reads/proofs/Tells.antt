@@ -17,7 +17,7 @@ use Rattle.tick_reads.specs.Ways.{count_by, reading}
 use Rattle.tick_reads.specs.Looks.{full_mark, fields_from, look}
 use Rattle.tick_reads.specs.Scans.{Scan, fresh, scan_at, ends, at_turn, at_mark, turn_ends, mark_ends, opens_at, turn_again, takes_counter, field_on, after, run, decided}
 use Rattle.tick_reads.specs.Converts.{ask_back}
-use Rattle.tick_reads.specs.Reads.{whole_loads, ReadsWhole, turn_open, turn_moved, turn_still, ReadsLight, mark_moved, mark_still, ReadsBy, Reads, StoodStill, Moved}
+use Rattle.tick_reads.specs.Reads.{IsAtCounter, whole_loads, ReadsWhole, turn_open, turn_moved, turn_still, ReadsLight, mark_moved, mark_still, ReadsBy, Reads, StoodStill, Moved}
 use Rattle.tick_reads.proofs.Conversions.{decides, explains}
 use Rattle.tick_reads.proofs.Endings.{after_by, by_way, false_and, none_some, some_same, IsOut, stays_lost, no_more, Goes, further, astray, over, goes_to_end, no_field_first, no_counter_first, no_mark_first}
 use Rattle.tick_reads.proofs.Runs.{run-append, run_fields, whole_counts, whole_ends, light_ends, opens_light, opens_even, opens_odd, fields_from-snoc}
@@ -54,8 +54,8 @@ module _ (ask : Ask) (way : way_of ask.kind ≡ full) where
   whole_run n fields c x long = ap (λ (s : Scan). (run ask s (fields_from n 0 fields ++ Counter c ∷ Turn x ∷ [])).answer) (opens_whole n)
       ∙ (ap (λ (s : Scan). s.answer) (run-append ask (scan_at (2 * n) n false [] []) (fields_from n 0 fields) (Counter c ∷ Turn x ∷ []))
       ∙ (ap (λ (s : Scan). (after ask (after ask s (Counter c)) (Turn x)).answer) (run_fields ask (2 * n) n [] fields)
-          ∙ (ap (λ (s : Scan). (after ask s (Turn x)).answer) (whole_counts ask (2 * n) n fields long way c)
-          ∙ ap (λ (s : Scan). s.answer) (whole_ends ask (2 * n) n fields long way c x))))
+      ∙ (ap (λ (s : Scan). (after ask s (Turn x)).answer) (whole_counts ask (2 * n) n fields long way c)
+      ∙ ap (λ (s : Scan). s.answer) (whole_ends ask (2 * n) n fields long way c x))))
 
   counted_reading : (n : ℕ) (fields : List ℕ) (c : ℕ) → reading ask n (unpack fields) c ≡ reading_at (unpack fields) n ask.kind c
   counted_reading n fields c = ap (λ k. reading_at (unpack fields) n ask.kind k) (count_whole ask.kind ask.given c (unpack fields) way)
@@ -74,7 +74,7 @@ module _ (ask : Ask) (way : way_of ask.kind ≡ quick) where
   light_run w fields x long = ap (λ (s : Scan). (run ask s (look (w / 2) fields x)).answer) (opens_light ask w way)
       ∙ (ap (λ (s : Scan). s.answer) (run-append ask (scan_at w (w / 2) false [] []) (fields_from (w / 2) 0 fields) (Mark (w / 2) x ∷ []))
       ∙ (ap (λ (s : Scan). (after ask s (Mark (w / 2) x)).answer) (run_fields ask w (w / 2) [] fields)
-          ∙ ap (λ (s : Scan). s.answer) (light_ends ask w (w / 2) fields long way x)))
+      ∙ ap (λ (s : Scan). s.answer) (light_ends ask w (w / 2) fields long way x)))
 
   pub decides_light : (loads : List Load) (e : Entry) → ReadsLight ask loads e → decided ask loads ≡ Some e
   decides_light loads e (mark_moved w fields x long other) = light_run w fields x long
@@ -115,14 +115,14 @@ module _ (ask : Ask) (way : way_of ask.kind ≡ full) where
     whole_field t f x true true e g = let scan : field_on s0 t f x ≡ scan_at (2 * n) n false (fields ++ x ∷ []) [] = λ i. record
         (scan_at (2 * n) n false (fields ++ x ∷ []) []) { good = e i && g i } in
         subst (λ (z : List Load × Scan). GoesWhole n z.0 z.1) (λ i. (sym (field_more (2 * n) n t f x fields e g) i, sym scan i))
-            (further ask full way (StageWhole n) (ReadsWhole ask.kind) _ _ (looking (fields ++ x ∷ [])))
+        (further ask full way (StageWhole n) (ReadsWhole ask.kind) _ _ (looking (fields ++ x ∷ [])))
 
     whole_counter : (c : ℕ) (a : Bool) → (length fields == 15) ≡ a → GoesWhole n (far ++ Counter c ∷ []) (takes_counter full ask s0 c)
     whole_counter c false e = astray ask full way (StageWhole n) (ReadsWhole ask.kind) _ (takes_counter full ask s0 c) refl (inl e) refl
     whole_counter c true e = let scan : takes_counter full ask s0 c ≡ scan_at (2 * n) n false fields (c ∷ []) = λ i. record
         (scan_at (2 * n) n false fields (c ∷ [])) { good = e i } in
         subst (GoesWhole n (far ++ Counter c ∷ [])) (sym scan) (further ask full way (StageWhole n) (ReadsWhole ask.kind) _ _
-            (counted fields c (eqb-true (length fields) 15 e)))
+        (counted fields c (eqb-true (length fields) 15 e)))
 
     module _ (c : ℕ) (long : length fields ≡ 15) where
       abbrev s1 : Scan
@@ -140,7 +140,7 @@ module _ (ask : Ask) (way : way_of ask.kind ≡ full) where
       whole_turn x = subst (λ b. GoesWhole n ((far ++ Counter c ∷ []) ++ Turn x ∷ []) (ends (turn_ends b ask s1 x) s1))
           (λ i. sym (eq-eqb (length fields) 15 long) i && true)
           (over ask full way (StageWhole n) (ReadsWhole ask.kind) _ (ends (Some (at_turn (x == 2 * n) ask s1 x)) s1) (at_turn (x == 2 * n) ask s1 x)
-              refl (inl refl) refl (subst (λ l. ReadsWhole ask.kind l (at_turn (x == 2 * n) ask s1 x)) (list_is x) (turn_law x (x == 2 * n) refl)))
+          refl (inl refl) refl (subst (λ l. ReadsWhole ask.kind l (at_turn (x == 2 * n) ask s1 x)) (list_is x) (turn_law x (x == 2 * n) refl)))
 
   next_whole : (n : ℕ) (loads : List Load) (s : Scan) → StageWhole n loads s → (l : Load) → GoesWhole n (loads ++ l ∷ []) (after_by full ask s l)
   unfolding after_by
@@ -174,8 +174,8 @@ module _ (ask : Ask) (way : way_of ask.kind ≡ full) where
   by_turn : (w : ℕ) (ls : List Load) (e : Entry) (b : Bool) → (w % 2 == 0) ≡ b → decided ask (Turn w ∷ ls) ≡ Some e → ReadsWhole ask.kind (Turn w ∷ ls) e
   by_turn w ls e true at is = let z = eqb-true (w % 2) 0 at in let n : ℕ = w / 2 in let whole : w ≡ 2 * n = omega arith in
       subst (λ t. ReadsWhole ask.kind (Turn t ∷ ls) e) (sym whole)
-          (goes_to_end ask full way (StageWhole n) (ReadsWhole ask.kind) (open_whole n) (next_whole n) (Turn (2 * n) ∷ [])
-          (scan_at (2 * n) n false [] []) ls e (looking [])
+      (goes_to_end ask full way (StageWhole n) (ReadsWhole ask.kind) (open_whole n) (next_whole n) (Turn (2 * n) ∷ [])
+      (scan_at (2 * n) n false [] []) ls e (looking [])
       (ap (λ (s : Scan). (run ask s ls).answer) (sym (opens_whole ask way n)) ∙ (ap (λ t. decided ask (Turn t ∷ ls)) (sym whole) ∙ is)))
   by_turn w ls e false at is = let other : w % 2 ≢ 0 = λ z. true≢false (sym (eq-eqb (w % 2) 0 z) ∙ at) in
       at_once w ls e (omega arith) (ap (λ (s : Scan). (run ask s ls).answer) (sym (opens_odd ask w way other)) ∙ is)
@@ -201,7 +201,7 @@ module _ (ask : Ask) (way : way_of ask.kind ≡ quick) where
     light_field t f x true true e g = let scan : field_on s2 t f x ≡ scan_at w (w / 2) false (fields ++ x ∷ []) [] = λ i. record
         (scan_at w (w / 2) false (fields ++ x ∷ []) []) { good = e i && g i } in
         subst (λ (z : List Load × Scan). GoesLight w z.0 z.1) (λ i. (sym (field_more w (w / 2) t f x fields e g) i, sym scan i))
-            (further ask quick way (StageLight w) (ReadsLight ask) _ _ (glancing (fields ++ x ∷ [])))
+        (further ask quick way (StageLight w) (ReadsLight ask) _ _ (glancing (fields ++ x ∷ [])))
 
     mark_law : (x : ℕ) (a : Bool) → length fields ≡ 15 → (x == full_mark (w / 2)) ≡ a → ReadsLight ask (Turn w ∷ look (w / 2) fields x) (at_mark a ask s2 x)
     mark_law x true long same = subst (λ (z : ℕ). ReadsLight ask (Turn w ∷ look (w / 2) fields z) (at_mark true ask s2 x))
@@ -216,9 +216,9 @@ module _ (ask : Ask) (way : way_of ask.kind ≡ quick) where
         (astray ask quick way (StageLight w) (ReadsLight ask) _ (ends None s2) refl refl refl)
     light_mark t x true true e g = subst (λ c. GoesLight w (near ++ Mark t x ∷ []) (ends (mark_ends c ask s2 x) s2)) (λ i. sym e i && sym g i)
         (over ask quick way (StageLight w) (ReadsLight ask) _ (ends (Some (at_mark (x == full_mark (w / 2)) ask s2 x)) s2)
-            (at_mark (x == full_mark (w / 2)) ask s2 x) refl refl refl
+        (at_mark (x == full_mark (w / 2)) ask s2 x) refl refl refl
         (subst (λ n. ReadsLight ask (near ++ Mark n x ∷ []) (at_mark (x == full_mark (w / 2)) ask s2 x)) (sym (eqb-true t (w / 2) g))
-            (mark_law x (x == full_mark (w / 2)) (eqb-true (length fields) 15 e) refl)))
+        (mark_law x (x == full_mark (w / 2)) (eqb-true (length fields) 15 e) refl)))
 
   next_light : (w : ℕ) (loads : List Load) (s : Scan) → StageLight w loads s → (l : Load) → GoesLight w (loads ++ l ∷ []) (after_by quick ask s l)
   unfolding after_by
@@ -303,3 +303,16 @@ read_stood k loads r h = still_of k loads (Read r) r h refl
 
 pub again_moved : (k : Kind) (loads : List Load) (first last : ℕ) → ReadsWhole k loads (Again k first last) → Moved loads first last
 again_moved k loads first last h = moved_of k loads (Again k first last) first last h refl
+
+-- the kinds that are read at the counter are read in full
+at_counter : (k : Kind) → IsAtCounter k → way_of k ≡ full
+at_counter kind.Abs at = refl
+at_counter kind.Mono at = refl
+at_counter kind.Uptime at = refl
+at_counter kind.Utc at = refl
+at_counter kind.Fast at = absurd at
+at_counter kind.Diff at = absurd at
+at_counter kind.Back at = absurd at
+
+pub kinds_stood : (ask : Ask) (loads : List Load) (r : Reading) → IsAtCounter ask.kind → Reads ask loads (Read r) → StoodStill ask.kind loads r
+kinds_stood ask loads r at reads = read_stood ask.kind loads r (subst (λ y. ReadsBy y ask loads (Read r)) (at_counter ask.kind at) reads)

@@ -1,6 +1,7 @@
 -- What the loads of a read come to, by its way.
-use Rattle.std.specs.Prelude.{◌≡◌, ◌≢◌, ℕ, ◌*◌, ◌/◌, ◌%◌, ◌⊎◌, List, [], ◌∷◌, ◌++◌, length}
+use Rattle.std.specs.Prelude.{◌≡◌, ◌≢◌, ℕ, ◌*◌, ◌/◌, ◌%◌, ◌⊎◌, ⊤, List, [], ◌∷◌, ◌++◌, length}
 use Rattle.clock_lines.specs.declared.readings.Kind.{Kind}
+use Rattle.clock_lines.specs.declared.readings.Kind.TheVariants as kind
 use Rattle.clock_lines.specs.declared.readings.Reading.{Reading}
 use Rattle.clock_lines.specs.declared.readings.Entry.{Entry}
 use Rattle.clock_lines.specs.declared.readings.Entry.TheVariants.{Read, Again}
@@ -57,3 +58,13 @@ ReadsBy past ask loads e = (w : ℕ) × Converts ask.given w loads e
 -- the loads of a call, which begin with the turn word, come to this entry
 abbrev pub Reads : Ask → List Load → Entry → Type 0
 Reads ask loads e = ReadsBy (way_of ask.kind) ask loads e
+
+-- the kinds that are read at the counter
+abbrev pub IsAtCounter : Kind → Type 0
+IsAtCounter kind.Abs = ⊤
+IsAtCounter kind.Mono = ⊤
+IsAtCounter kind.Uptime = ⊤
+IsAtCounter kind.Utc = ⊤
+IsAtCounter kind.Fast = ⊥
+IsAtCounter kind.Diff = ⊥
+IsAtCounter kind.Back = ⊥

@@ -34,8 +34,16 @@ fresh = record { begun = false; good = false; first = 0; tick = 0; line = false;
 
 -- a call that goes on
 abbrev pub scan_at : ℕ → ℕ → Bool → List ℕ → List ℕ → Scan
-scan_at first tick line fields counters = record { begun = true; good = true; first = first; tick = tick; line = line; fields = fields;
-    counters = counters; answer = None }
+scan_at first tick line fields counters = record {
+  begun = true;
+  good = true;
+  first = first;
+  tick = tick;
+  line = line;
+  fields = fields;
+  counters = counters;
+  answer = None;
+}
 
 abbrev pub is_even : ℕ → Bool
 is_even w = w % 2 == 0

@@ -17,5 +17,5 @@ pub closed_journal : (m m' : Me (Unit {0}) View) (p : PenView) (n : ℕ) (h : Ha
 closed_journal m m' p n h is moved legal long stored next ranges =
     let legal' : IsJournal p.journal = subst (λ (x : Me (Unit {0}) View). IsJournal (pen_of x.0).journal) is legal in
     let step : (pen_of m'.0).journal ≡ p.journal ++ unpack p.stored ∷ [] = ap (λ (x : Me (Unit {0}) View). (pen_of x.0).journal) moved
-        ∙ ap (λ (x : Me (Unit {0}) View). (pen_of (on_pen turn_closed x.0)).journal) is in
+    ∙ ap (λ (x : Me (Unit {0}) View). (pen_of (on_pen turn_closed x.0)).journal) is in
     step ∙ ap (λ g. p.journal ++ g ∷ []) (ap unpack stored ∙ can_be_read p.journal n h long legal' next ranges)

@@ -26,7 +26,7 @@ use Rattle.tick_reads.specs.Ways.{needs_even}
 use Rattle.tick_reads.specs.Looks.{full_mark}
 use Rattle.tick_reads.specs.Scans.{Scan, has_fields}
 use Rattle.tick_table.specs.Rule.{turn_of, mark_at, field_at, marks_of, world_of, SlotIs, AreBare, CounterStands, Stands, Tops, number_in, Numbers, Rule}
-use Rattle.tick_views.specs.Worlds.{Goes, AllBelow, World, FitsKept, FitsCall, FitsPass, Fits, top_tick, IsMark, or_else}
+use Rattle.tick_views.specs.Worlds.{Goes, AllAtMost, World, FitsKept, FitsCall, FitsPass, Fits, top_tick, IsMark, or_else}
 use Rattle.tick_views.specs.Views.{new_pass, scan_of, turn_loaded, counter_loaded, call_begun, field_loaded, mark_loaded, on_pen, pass_made, pass_cut, noted_cut, crank_lent, crank_first, crank_raised, crank_cut, kept_of, pass_taken, crank_taken, learned, taken}
 use Rattle.tick_table.specs.Steps.{IsSoundAt, LearnsTurn, LearnsAll, Opens, LoadsTurn, LoadsCounter, LoadsMark, LoadsField, Cranks, LoadsOwnTurn}
 use Rattle.tick_views.proofs.Grow.{at_end, in_list, grow}
@@ -56,16 +56,16 @@ views_step : (s : St) (r : Rule s) (ws : List ℕ) (id : ℕ) (v w : View) → w
     → Rule record { words = ws; homes = s.homes; views = set s.views id w }
 views_step s r ws id v w same far at old new number fits = subst
     (λ (xs : List ℕ). Rule record { words = xs; homes = s.homes; views = set s.views id w }) (sym same) record {
-  pen = r.pen;
-  last = r.last;
-  crank = r.crank;
-  seated = set_else s.views id 0 w (λ e. omega arith) ∙ r.seated;
-  stands = r.stands;
-  tops = tops_set s.views r.pen r.pen (get_or s.words 1 0) r.crank id v w at old new refl refl r.tops;
-  numbers = numbers_set s.views id v w at number r.pen.kept r.pen.kept r.pen.made r.pen.made refl refl r.numbers;
-  each = λ j u e beyond. ⊎_elim (λ (x : (j ≡ id) × (w ≡ u)). subst (λ (y : View). Fits (world_of s.words r.pen r.last) y) x.1 fits)
-      (λ (x : (j ≢ id) × (get_elem? s.views j ≡ some u)). r.each j u x.1 beyond) (at_set s.views id j w u e);
-}
+      pen = r.pen;
+      last = r.last;
+      crank = r.crank;
+      seated = set_else s.views id 0 w (λ e. omega arith) ∙ r.seated;
+      stands = r.stands;
+      tops = tops_set s.views r.pen r.pen (get_or s.words 1 0) r.crank id v w at old new refl refl r.tops;
+      numbers = numbers_set s.views id v w at number r.pen.kept r.pen.kept r.pen.made r.pen.made refl refl r.numbers;
+      each = λ j u e beyond. ⊎_elim (λ (x : (j ≡ id) × (w ≡ u)). subst (λ (y : View). Fits (world_of s.words r.pen r.last) y) x.1 fits)
+          (λ (x : (j ≢ id) × (get_elem? s.views j ≡ some u)). r.each j u x.1 beyond) (at_set s.views id j w u e);
+    }
 
 -- a load, after which the pass knows v'
 load_step : (s : St) (r : Rule s) (id i : ℕ) (v v' : PassView) → v'.number ≡ v.number → get_elem? s.views id ≡ some (Pass v)
@@ -110,7 +110,7 @@ module _ (s : St) (r : Rule s) where
   last_mark closed = let long = r.stands.long in let h = there r.pen.journal r.last (omega arith) in let t = r.stands.slots.slots r.last h.0 h.1 in
       let from = t.from in
       let none-yet : t.k ≤ r.last = unmarked r.pen.marked (λ e. true≢false (sym (r.stands.slots.opened e) ∙ closed)) t.top in
-          let k-is : t.k ≡ r.last = omega arith in t.whole none-yet ∙ ap full_mark k-is
+      let k-is : t.k ≡ r.last = omega arith in t.whole none-yet ∙ ap full_mark k-is
     where
       unmarked : (b : Bool) → (b ≡ true → ⊥) → {k : ℕ} → k ≤ r.last + cond b 1 0 → k ≤ r.last
       unmarked true never {k} le = absurd (never refl)
@@ -136,14 +136,14 @@ module _ (s : St) (r : Rule s) where
       → get_elem? (pack h) k ≡ some (get_or s.words (field_at m k) 0)
   slot_is m h k less is_full at = let t = r.stands.slots.slots m h at in
       let k-is : t.k ≡ m = ⊎_elim (λ (odd : marks_of s.words m ≡ 2 * t.k + 1). absurd (omega arith))
-          (λ (even : marks_of s.words m ≡ 2 * t.k + 2). omega arith) t.mark in
+      (λ (even : marks_of s.words m ≡ 2 * t.k + 2). omega arith) t.mark in
       pack_at h k less ∙ ap some (sym (t.fields k-is k (get_or (pack h) k 0) (pack_at h k less)))
 
   later : (m : ℕ) → m < length r.pen.journal → marks_of s.words m ≢ full_mark m → (k : ℕ) × IsMark (marks_of s.words m) k × (m + 10 ≤ k)
       × (k % 10 ≡ m % 10) × (k ≤ top_tick (turn_of r.pen r.last))
   later m in-J other = let h = there r.pen.journal m in-J in let long = r.stands.long in
       later_mark (world_of s.words r.pen r.last) s.words r.last r.pen.marked m h.0 (r.stands.slots.slots m h.0 h.1) refl other (omega arith)
-          (reaches r.pen.marked r.pen.winding r.stands.slots.opened)
+      (reaches r.pen.marked r.pen.winding r.stands.slots.opened)
 
   ten_later : (m : ℕ) → m < length r.pen.journal → marks_of s.words m ≢ full_mark m → 2 * m + 21 ≤ marks_of s.words m
   ten_later m in-J other = let k = later m in-J other in let from = k.2 in
@@ -183,16 +183,16 @@ module _ (slots id : ℕ) (v : PassView) where
   turns : v.calling ≡ true → Allows Rule slots id (Pass v, []) 0 (λ n. n) (LoadsTurn (step slots 0 0 0 none) (Pass v, []))
   turns calling s r _ at small = let x : ℕ = get_or s.words 0 0 in let t : ℕ = turn_of r.pen r.last in let same : x ≡ t = r.stands.turn in
       let f = fits_at s r id v at in (
-    Pass (turn_loaded t v),
-    keeps,
-    tt,
-    load_step s r id 0 v (turn_loaded t v) refl at (turn_fits (world_of s.words r.pen r.last) r.stands.back (sane s r) v f calling),
-    (
-      λ i. (Pass (turn_loaded (sym same i) v), []),
-      subst (LearnsTurn v) (sym same) (learns s r at),
-      subst (LearnsAll v.ask (scan_of v)) (sym same) (all_known s r (way_of v.ask.kind) v.ask refl v.seen v.entries (scan_of v) f.seen (f.call calling)),
-    ),
-  )
+        Pass (turn_loaded t v),
+        keeps,
+        tt,
+        load_step s r id 0 v (turn_loaded t v) refl at (turn_fits (world_of s.words r.pen r.last) r.stands.back (sane s r) v f calling),
+        (
+          λ i. (Pass (turn_loaded (sym same i) v), []),
+          subst (LearnsTurn v) (sym same) (learns s r at),
+          subst (LearnsAll v.ask (scan_of v)) (sym same) (all_known s r (way_of v.ask.kind) v.ask refl v.seen v.entries (scan_of v) f.seen (f.call calling)),
+        ),
+      )
 
   counters : v.calling ≡ true → Allows Rule slots id (Pass v, []) 1 (λ n. n) (LoadsCounter (step slots 1 0 0 none) (Pass v, []))
   counters calling s r _ at _ = let x : ℕ = get_or s.words 1 0 in let f = fits_at s r id v at in (
@@ -211,7 +211,7 @@ module _ (slots id : ℕ) (v : PassView) where
     tt,
     load_step s r id (field_at m k) v (field_loaded k x v) refl at (field_fits (world_of s.words r.pen r.last) r.stands.back v k x (fits_at s r id v at) calling
         (subst (λ j. (h : Hands) → marks_of s.words j ≡ full_mark j → get_elem? r.pen.journal j ≡ some h → get_elem? (pack h) k ≡ some x) m-is
-            (λ h is_full here. slot_is s r m h k small is_full here))),
+        (λ h is_full here. slot_is s r m h k small is_full here))),
     λ i. (Pass (field_loaded (which i) x v), []),
   )
 
@@ -235,13 +235,13 @@ module _ (slots id : ℕ) (v : PassView) where
 pen_cuts : (s : St) (r : Rule s) (p p' : PenView) (right : View) → get_elem? s.views 0 ≡ some (Pen p)
     → ((n crank : ℕ) → Stands s.words p n → Tops s.views p (get_or s.words 1 0) crank
     → (crank' : ℕ) × Goes (world_of s.words p n) (world_of s.words p' n) × Stands s.words p' n
-        × Tops (set s.views 0 (Pen p') ++ right ∷ []) p' (get_or s.words 1 0) crank' × Fits (world_of s.words p' n) right)
+    × Tops (set s.views 0 (Pen p') ++ right ∷ []) p' (get_or s.words 1 0) crank' × Fits (world_of s.words p' n) right)
     → (Numbers s.views p.kept p.made → Numbers (set s.views 0 (Pen p') ++ right ∷ []) p'.kept p'.made)
     → Rule record { words = s.words; homes = s.homes; views = set s.views 0 (Pen p') ++ right ∷ [] }
 pen_cuts s r p p' right at next count = let same : r.pen ≡ p = pen_same r.pen p (sym r.seated ∙ at) in let here = in_list s.views 0 (Pen p) at in
     let stands : Stands s.words p r.last = subst (λ (q : PenView). Stands s.words q r.last) same r.stands in
     let tops : Tops s.views p (get_or s.words 1 0) r.crank = subst (λ (q : PenView). Tops s.views q (get_or s.words 1 0) r.crank) same r.tops in
-        let t = next r.last r.crank stands tops in record {
+    let t = next r.last r.crank stands tops in record {
       pen = p';
       last = r.last;
       crank = t.0;
@@ -252,7 +252,7 @@ pen_cuts s r p p' right at next count = let same : r.pen ≡ p = pen_same r.pen 
       each = λ j v e far. ⊎_elim
           (λ (was : get_elem? (set s.views 0 (Pen p')) j ≡ some v). ⊎_elim (λ (x : (j ≡ 0) × (Pen p' ≡ v)). let z = x.0 in absurd (omega arith))
           (λ (x : (j ≢ 0) × (get_elem? s.views j ≡ some v)). grow (world_of s.words p r.last) (world_of s.words p' r.last) t.1 v
-              (subst (λ (q : PenView). Fits (world_of s.words q r.last) v) same (r.each j v x.1 far)))
+          (subst (λ (q : PenView). Fits (world_of s.words q r.last) v) same (r.each j v x.1 far)))
           (at_set s.views 0 j (Pen p') v was))
           (λ (new : right ≡ v). subst (λ (y : View). Fits (world_of s.words p' r.last) y) new t.4)
           (at_snoc (set s.views 0 (Pen p')) right v j e);
@@ -269,7 +269,7 @@ pen_takes s r p p' other u at apart was next count = let same : r.pen ≡ p = pe
     let stands : Stands s.words p r.last = subst (λ (q : PenView). Stands s.words q r.last) same r.stands in
     let tops : Tops s.views p (get_or s.words 1 0) r.crank = subst (λ (q : PenView). Tops s.views q (get_or s.words 1 0) r.crank) same r.tops in
     let theirs : Fits (world_of s.words p r.last) u = subst (λ (q : PenView). Fits (world_of s.words q r.last) u) same
-        (r.each other u was (omega arith)) in let t = next r.last r.crank stands tops theirs in record {
+    (r.each other u was (omega arith)) in let t = next r.last r.crank stands tops theirs in record {
       pen = p';
       last = r.last;
       crank = r.crank;
@@ -279,9 +279,9 @@ pen_takes s r p p' other u at apart was next count = let same : r.pen ≡ p = pe
       numbers = count (subst (λ (q : PenView). Numbers s.views q.kept q.made) same r.numbers);
       each = λ j y e far. ⊎_elim (λ (x : (j ≡ other) × (Spent ≡ y)). subst (λ (z : View). Fits (world_of s.words p' r.last) z) x.1 tt)
           (λ (x : (j ≢ other) × (get_elem? (set s.views 0 (Pen p')) j ≡ some y)). ⊎_elim
-              (λ (z : (j ≡ 0) × (Pen p' ≡ y)). let none-such = z.0 in absurd (omega arith))
+          (λ (z : (j ≡ 0) × (Pen p' ≡ y)). let none-such = z.0 in absurd (omega arith))
           (λ (z : (j ≢ 0) × (get_elem? s.views j ≡ some y)). grow (world_of s.words p r.last) (world_of s.words p' r.last) t.0 y
-              (subst (λ (q : PenView). Fits (world_of s.words q r.last) y) same (r.each j y z.1 far))) (at_set s.views 0 j (Pen p') y x.1))
+          (subst (λ (q : PenView). Fits (world_of s.words q r.last) y) same (r.each j y z.1 far))) (at_set s.views 0 j (Pen p') y x.1))
           (at_set (set s.views 0 (Pen p')) other j Spent y e);
     }
 
@@ -314,7 +314,7 @@ restands words p p' n journal winding marked is-set stored loaded counters kept 
     ticks = λ m h e. subst (λ l. h.count ≤ or_else l (get_or words 1 0)) (sym loaded)
         (f.counter.ticks m h (subst (λ (l : List Hands). get_elem? l m ≡ some h) journal e));
     bound = subst (λ l. or_else l (get_or words 1 0) ≤ get_or words 1 0) (sym loaded) f.counter.bound;
-    counted = subst (AllBelow (get_or words 1 0)) (sym counters) f.counter.counted;
+    counted = subst (AllAtMost (get_or words 1 0)) (sym counters) f.counter.counted;
     closed = λ e. loaded ∙ f.counter.closed (sym winding ∙ e);
   };
   legal = subst IsJournal (sym journal) f.legal;
@@ -331,26 +331,31 @@ more_made words p n m up = goes_same p.journal (turn_of p n) (turn_of p n) (mark
 cuts_pass : (p : PenView) → Splits Rule 0 (Pen p) (on_pen pass_made (Pen p)) (pass_cut (Pen p))
 cuts_pass p s r at = pen_cuts s r p (pass_made p) (Pass (new_pass p.made (length p.journal))) at
     (λ n crank f tops. let goes = more_made s.words p n (p.made + 1) (omega arith) in (
-  crank,
-  goes,
-  restands s.words p (pass_made p) n refl refl refl refl refl refl refl
-      (grow_kept (world_of s.words p n) (world_of s.words (pass_made p) n) goes p.kept f.kept) f,
-  tops_snoc (set s.views 0 (Pen (pass_made p))) (pass_made p) (get_or s.words 1 0) crank (Pass (new_pass p.made (length p.journal))) tt
-      (tops_set s.views p (pass_made p) (get_or s.words 1 0) crank 0 (Pen p) (Pen (pass_made p)) at tt tt refl refl tops),
-  record {
-    seen = le_refl (length p.journal);
-    rises = tt;
-    below = λ i x e. absurd (some-ne-none x (sym e));
-    known = λ i x e. absurd (some-ne-none x (sym e));
-    number = omega arith;
-    counters_rise = tt;
-    counters_below = λ i x e. absurd (some-ne-none x (sym e));
-    marks = λ i x e. absurd (some-ne-none x (sym e));
-    log = record { each = λ i x e. absurd (some-ne-none x (sym e)); rises = tt; below = λ i x e. absurd (some-ne-none x (sym e)); counts_rise = tt;
-        counts_below = λ i x e. absurd (some-ne-none x (sym e)) };
-    call = λ e. absurd (true≢false (sym e));
-  },
-)) (λ n. numbers_pass (set s.views 0 (Pen (pass_made p))) (new_pass p.made (length p.journal)) p.kept p.made refl
+      crank,
+      goes,
+      restands s.words p (pass_made p) n refl refl refl refl refl refl refl
+          (grow_kept (world_of s.words p n) (world_of s.words (pass_made p) n) goes p.kept f.kept) f,
+      tops_snoc (set s.views 0 (Pen (pass_made p))) (pass_made p) (get_or s.words 1 0) crank (Pass (new_pass p.made (length p.journal))) tt
+          (tops_set s.views p (pass_made p) (get_or s.words 1 0) crank 0 (Pen p) (Pen (pass_made p)) at tt tt refl refl tops),
+      record {
+        seen = le_refl (length p.journal);
+        rises = tt;
+        below = λ i x e. absurd (some-ne-none x (sym e));
+        known = λ i x e. absurd (some-ne-none x (sym e));
+        number = omega arith;
+        counters_rise = tt;
+        counters_below = λ i x e. absurd (some-ne-none x (sym e));
+        marks = λ i x e. absurd (some-ne-none x (sym e));
+        log = record {
+          each = λ i x e. absurd (some-ne-none x (sym e));
+          rises = tt;
+          below = λ i x e. absurd (some-ne-none x (sym e));
+          counts_rise = tt;
+          counts_below = λ i x e. absurd (some-ne-none x (sym e));
+        };
+        call = λ e. absurd (true≢false (sym e));
+      },
+    )) (λ n. numbers_pass (set s.views 0 (Pen (pass_made p))) (new_pass p.made (length p.journal)) p.kept p.made refl
     (numbers_set s.views 0 (Pen p) (Pen (pass_made p)) at refl p.kept p.kept p.made p.made refl refl n))
 
 cuts_note : (p : PenView) → Splits Rule 0 (Pen p) (Pen p) (noted_cut (Pen p))
@@ -368,20 +373,20 @@ cuts_crank : (p : PenView) → p.out ≡ false → Splits Rule 0 (Pen p) (on_pen
 cuts_crank p in-hand s r at = pen_cuts s r p (crank_lent p) (Crank crank_first) at
     (λ n crank f tops. let goes = more_made s.words p n p.made (le_refl p.made) in let l : List View = set s.views 0 (Pen (crank_lent p)) in
     let home = tops.home in-hand in (
-  length l,
-  goes,
-  restands s.words p (crank_lent p) n refl refl refl refl refl refl refl f.kept f,
-  record {
-    home = λ e. absurd (true≢false e);
-    away = λ _. (crank_first, at_last l (Crank crank_first) (length l) refl, omega arith);
-    only = λ j k e. ⊎_elim
-        (λ (was : get_elem? l j ≡ some (Crank k)). ⊎_elim (λ (x : (j ≡ 0) × (Pen (crank_lent p) ≡ Crank k)). absurd
+      length l,
+      goes,
+      restands s.words p (crank_lent p) n refl refl refl refl refl refl refl f.kept f,
+      record {
+        home = λ e. absurd (true≢false e);
+        away = λ _. (crank_first, at_last l (Crank crank_first) (length l) refl, omega arith);
+        only = λ j k e. ⊎_elim
+            (λ (was : get_elem? l j ≡ some (Crank k)). ⊎_elim (λ (x : (j ≡ 0) × (Pen (crank_lent p) ≡ Crank k)). absurd
             (pen_or_crank (crank_lent p) k x.1)) (λ (x : (j ≢ 0) × (get_elem? s.views j ≡ some (Crank k))). absurd
             (true≢false (sym (tops.only j k x.1).0 ∙ in-hand))) (at_set s.views 0 j (Pen (crank_lent p)) (Crank k) was))
-        (λ (new : (j ≡ length l) × (Crank crank_first ≡ Crank k)). (refl, new.0)) (at_end l (Crank crank_first) (Crank k) j e);
-  },
-  tt,
-)) (λ n. numbers_snoc (set s.views 0 (Pen (crank_lent p))) (Crank crank_first) p.kept p.made refl
+            (λ (new : (j ≡ length l) × (Crank crank_first ≡ Crank k)). (refl, new.0)) (at_end l (Crank crank_first) (Crank k) j e);
+      },
+      tt,
+    )) (λ n. numbers_snoc (set s.views 0 (Pen (crank_lent p))) (Crank crank_first) p.kept p.made refl
     (numbers_set s.views 0 (Pen p) (Pen (crank_lent p)) at refl p.kept p.kept p.made p.made refl refl n))
 
 takes_pass : (p : PenView) (other : ℕ) (v : PassView) → Joins Rule 0 (Pen p) other (Pass v) (taken (Pen p) (Pass v)) Spent
@@ -391,20 +396,20 @@ takes_pass p other v s r at apart there' = let p' = pass_taken p v in
       more_made s.words p n p.made (le_refl p.made),
       restands s.words p p' n refl refl refl refl refl refl refl
           (λ i x e. ⊎_elim (λ (old : get_elem? p.kept i ≡ some x). f.kept i x old)
-              (λ (new : kept_of v ≡ x). subst (λ (y : Kept). FitsKept (world_of s.words p n) y)
-              new record { seen = fits.seen; counters = fits.counters_below; log = fits.log }) (at_snoc p.kept (kept_of v) x i e)) f,
+          (λ (new : kept_of v ≡ x). subst (λ (y : Kept). FitsKept (world_of s.words p n) y)
+          new record { seen = fits.seen; counters = fits.counters_below; log = fits.log }) (at_snoc p.kept (kept_of v) x i e)) f,
       tops_set (set s.views 0 (Pen p')) p' p' (get_or s.words 1 0) crank other (Pass v) Spent there' tt tt refl refl
           (tops_set s.views p p' (get_or s.words 1 0) crank 0 (Pen p) (Pen p') at tt tt refl refl tops),
     )) (λ n. numbers_kept (set s.views 0 (Pen p')) other v p.kept p.made there'
-        (numbers_set s.views 0 (Pen p) (Pen p') at refl p.kept p.kept p.made p.made refl refl n))
+    (numbers_set s.views 0 (Pen p) (Pen p') at refl p.kept p.kept p.made p.made refl refl n))
 
 takes_crank : (p : PenView) (other : ℕ) (k : CrankView) → Joins Rule 0 (Pen p) other (Crank k) (taken (Pen p) (Crank k)) Spent
 takes_crank p other k s r at apart there' = let p' = crank_taken p k.top in
     let was : get_elem? s.views other ≡ some (Crank k) = sym (set_else s.views 0 other (Pen p') apart) ∙ there' in
     pen_takes s r p p' other (Crank k) at apart was (λ n crank f tops fits. let o = tops.only other k was in let a = tops.away o.0 in
-        let c : ℕ = get_or s.words 1 0 in
+    let c : ℕ = get_or s.words 1 0 in
     let same : Crank a.0 ≡ Crank k = some-injective _ _ (sym a.1 ∙ (ap (λ i. get_elem? s.views i) (sym o.1) ∙ was)) in let k-is : a.0 ≡ k = cc in
-        let top-is : a.0.top ≡ k.top = ap (λ (x : CrankView). x.top) k-is in let top = a.2 in (
+    let top-is : a.0.top ≡ k.top = ap (λ (x : CrankView). x.top) k-is in let top = a.2 in (
       more_made s.words p n p.made (le_refl p.made),
       restands s.words p p' n refl refl refl refl refl refl refl f.kept f,
       record {
@@ -413,10 +418,10 @@ takes_crank p other k s r at apart there' = let p' = crank_taken p k.top in
         only = λ j q e. absurd (⊎_elim (λ (x : (j ≡ other) × (Spent ≡ Crank q)). no_crank Spent q tt x.1)
             (λ (x : (j ≢ other) × (get_elem? (set s.views 0 (Pen p')) j ≡ some (Crank q))). ⊎_elim (λ (z : (j ≡ 0) × (Pen p' ≡ Crank q)). pen_or_crank p' q z.1)
             (λ (z : (j ≢ 0) × (get_elem? s.views j ≡ some (Crank q))). x.0 ((tops.only j q z.1).1 ∙ sym o.1))
-                (at_set s.views 0 j (Pen p') (Crank q) x.1)) (at_set (set s.views 0 (Pen p')) other j Spent (Crank q) e));
+            (at_set s.views 0 j (Pen p') (Crank q) x.1)) (at_set (set s.views 0 (Pen p')) other j Spent (Crank q) e));
       },
     )) (λ n. numbers_set (set s.views 0 (Pen p')) other (Crank k) Spent there' refl p.kept p.kept p.made p.made refl refl
-        (numbers_set s.views 0 (Pen p) (Pen p') at refl p.kept p.kept p.made p.made refl refl n))
+    (numbers_set s.views 0 (Pen p) (Pen p') at refl p.kept p.kept p.made p.made refl refl n))
 
 -- a pass takes a note in
 learned_fits : (w : World) (v : PassView) (k : ℕ) → k ≤ length w.journal → FitsPass w v → FitsPass w (learned v k)
@@ -430,17 +435,26 @@ learned_fits w v k small f = let seen = f.seen in let up : v.seen ≤ max v.seen
   counters_below = f.counters_below;
   marks = f.marks;
   log = f.log;
-  call = λ e. let c = f.call e in let tick = c.tick in record { begun = c.begun; undecided = c.undecided; later = c.later; tick = omega arith;
-      near = c.near; reached = c.reached; kind = c.kind; fields = c.fields; counters = c.counters };
+  call = λ e. let c = f.call e in let tick = c.tick in record {
+    begun = c.begun;
+    undecided = c.undecided;
+    later = c.later;
+    tick = omega arith;
+    near = c.near;
+    reached = c.reached;
+    kind = c.kind;
+    fields = c.fields;
+    counters = c.counters;
+  };
 }
 
 takes_note : (id : ℕ) (v : PassView) (other k : ℕ) → Joins Rule id (Pass v) other (Note k) (taken (Pass v) (Note k)) Spent
 takes_note id v other k s r at apart there' = let v' = learned v k in
     let was : get_elem? s.views other ≡ some (Note k) = sym (set_else s.views id other (Pass v') apart) ∙ there' in
     let far = not_pen s r id (Pass v) (λ p. pen_or_pass p v) at in let far' = not_pen s r other (Note k) (λ p. pen_or_note p k) was in
-        let note = r.each other (Note k) was far' in
+    let note = r.each other (Note k) was far' in
     let first : Rule record { words = s.words; homes = s.homes; views = set s.views id (Pass v') } = views_step s r s.words id (Pass v) (Pass v')
-        refl far at tt tt refl (learned_fits (world_of s.words r.pen r.last) v k note (fits_at s r id v at)) in
+    refl far at tt tt refl (learned_fits (world_of s.words r.pen r.last) v k note (fits_at s r id v at)) in
     views_step record { words = s.words; homes = s.homes; views = set s.views id (Pass v') } first s.words other (Note k) Spent refl far' there' tt tt refl tt
 
 -- the crank raises the counter
@@ -449,16 +463,16 @@ cranks : (slots id : ℕ) (k : CrankView) (to : ℕ) → to < 2 ^ 62
 cranks slots id k to few s r _ at _ = let c : ℕ = get_or s.words 1 0 in let c' : ℕ = max c to in let ws : List ℕ = set s.words 1 c' in
     let low : 1 < 2 = omega arith in let p = r.pen in let f = r.stands in let wide = f.wide in
     let is : get_or ws 1 0 ≡ c' = get_or-set_same s.words 1 c' 0 (omega arith) in let up : c ≤ c' = omega arith in
-        let far = not_pen s r id (Crank k) (λ p. pen_or_crank p k) at in let here = in_list s.views id (Crank k) at in
+    let far = not_pen s r id (Crank k) (λ p. pen_or_crank p k) at in let here = in_list s.views id (Crank k) at in
     let old = λ (m : ℕ) (z : m < length p.journal) (e : marks_of ws m ≡ full_mark m). sym (low_keeps_mark s.words wide 1 m c' low) ∙ e in
-        let small = f.counter.small in
+    let small = f.counter.small in
     let goes : Goes (world_of s.words p r.last) (world_of ws p r.last) = goes_same p.journal (turn_of p r.last) (turn_of p r.last) (marks_of s.words)
-        (marks_of ws) c (get_or ws 1 0) (or_else p.loaded c) (or_else p.loaded (get_or ws 1 0)) p.made p.made (le_refl (turn_of p r.last)) old
+    (marks_of ws) c (get_or ws 1 0) (or_else p.loaded c) (or_else p.loaded (get_or ws 1 0)) p.made p.made (le_refl (turn_of p r.last)) old
     (subst (λ y. c ≤ y) (sym is) up) (subst (λ y. or_else p.loaded c ≤ or_else p.loaded y) (sym is) (or_else_up p.loaded c c' up)) (le_refl p.made) in
     let o = r.tops.only id k at in let a = r.tops.away o.0 in let same : Crank a.0 ≡ Crank k = some-injective _ _
-        (sym a.1 ∙ (ap (λ i. get_elem? s.views i) (sym o.1) ∙ at)) in let k-is : a.0 ≡ k = cc in
-        let top-is : a.0.top ≡ k.top = ap (λ (x : CrankView). x.top) k-is in let top = a.2 in let reached : k.top ≤ c = omega arith in
-        let k' : CrankView = crank_raised to c' k in
+    (sym a.1 ∙ (ap (λ i. get_elem? s.views i) (sym o.1) ∙ at)) in let k-is : a.0 ≡ k = cc in
+    let top-is : a.0.top ≡ k.top = ap (λ (x : CrankView). x.top) k-is in let top = a.2 in let reached : k.top ≤ c = omega arith in
+    let k' : CrankView = crank_raised to c' k in
     let w' : View = Crank k' in (
       w',
       keeps,
@@ -474,9 +488,13 @@ cranks slots id k to few s r _ at _ = let c : ℕ = get_or s.words 1 0 in let c'
           few = f.few;
           turn = get_or-set_other s.words 1 0 c' 0 (λ e. omega arith) ∙ f.turn;
           slots = slots_low s.words p p r.last 1 c' wide low refl refl refl refl refl f.slots;
-          counter = subst (λ y. CounterStands y p) (sym is) record { small = omega arith;
-              ticks = λ m h e. le_trans (f.counter.ticks m h e) (or_else_up p.loaded c c' up); bound = bound_up p.loaded c c' up f.counter.bound;
-              counted = λ i x e. le_trans (f.counter.counted i x e) up; closed = f.counter.closed };
+          counter = subst (λ y. CounterStands y p) (sym is) record {
+            small = omega arith;
+            ticks = λ m h e. le_trans (f.counter.ticks m h e) (or_else_up p.loaded c c' up);
+            bound = bound_up p.loaded c c' up f.counter.bound;
+            counted = λ i x e. le_trans (f.counter.counted i x e) up;
+            closed = f.counter.closed;
+          };
           legal = f.legal;
           back = f.back;
           kept = grow_kept (world_of s.words p r.last) (world_of ws p r.last) goes p.kept f.kept;
@@ -491,7 +509,7 @@ cranks slots id k to few s r _ at _ = let c : ℕ = get_or s.words 1 0 in let c'
         numbers = numbers_set s.views id (Crank k) w' at refl p.kept p.kept p.made p.made refl refl r.numbers;
         each = λ j u e beyond. ⊎_elim (λ (x : (j ≡ id) × (w' ≡ u)). subst (λ (y : View). Fits (world_of ws p r.last) y) x.1 tt)
             (λ (x : (j ≢ id) × (get_elem? s.views j ≡ some u)). grow (world_of s.words p r.last) (world_of ws p r.last) goes u
-                (r.each j u x.1 beyond)) (at_set s.views id j w' u e);
+            (r.each j u x.1 beyond)) (at_set s.views id j w' u e);
       },
       (refl, reached, small),
     )
@@ -508,7 +526,7 @@ looks slots p s r _ at _ = let same : r.pen ≡ p = pen_same r.pen p (sym r.seat
     let numbers : Numbers s.views p.kept p.made = subst (λ (q : PenView). Numbers s.views q.kept q.made) same r.numbers in
     let last : r.last ≡ length p.journal - 1 = let long = stands.long in omega arith in
     let unmoved : record { words = set s.words 0 (get_or s.words 0 0); homes = s.homes; views = set s.views 0 (Pen p) }
-        ≡ s = λ i. record { words = set-get_or s.words 0 0 i; homes = s.homes; views = set_again s.views 0 (Pen p) at i } in (
+    ≡ s = λ i. record { words = set-get_or s.words 0 0 i; homes = s.homes; views = set_again s.views 0 (Pen p) at i } in (
       Pen p,
       keeps,
       tt,
@@ -520,7 +538,7 @@ looks slots p s r _ at _ = let same : r.pen ≡ p = pen_same r.pen p (sym r.seat
           journal = stands.legal;
           once = numbers.once;
           given = numbers.small_kept;
-          words = s.words;
+          stood = s.words;
           small = stands.counter.small;
           home = λ e. tops.home e;
           closed = stands.counter.closed;

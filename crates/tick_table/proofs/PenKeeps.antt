@@ -29,7 +29,7 @@ use Rattle.std.proofs.lemmas.Option.{slice_get-get_or}
 use Rattle.tick_table.proofs.Numbering.{numbers_set}
 use Rattle.tick_reads.specs.Looks.{full_mark}
 use Rattle.tick_table.specs.Rule.{turn_of, mark_at, field_at, marks_of, world_of, SlotIs, AreBare, SlotsStand, CounterStands, Stands, Tops, number_in, Numbers, Rule}
-use Rattle.tick_views.specs.Worlds.{Goes, World, AllBelow, FitsKept, Fits, IsMark, or_else}
+use Rattle.tick_views.specs.Worlds.{Goes, World, AllAtMost, FitsKept, Fits, IsMark, or_else}
 use Rattle.tick_views.specs.Views.{pen_first, turn_started, mark_started, field_stored, mark_set, turn_closed, loaded_if, pen_counted, top_raised}
 use Rattle.tick_table.specs.Steps.{Starts, StartsMark, Stores, SetsMark, Closes, LearnsCounter, LoadsOwnCounter, Raises}
 use Rattle.tick_views.proofs.Grow.{at_end, at_shorter, in_list, grow, grow_one_kept}
@@ -71,12 +71,12 @@ tops_set views p p' c crank id v w at old new out top t = record {
 pen_step : (s : St) (r : Rule s) (p p' : PenView) (i new : ℕ) → get_elem? s.views 0 ≡ some (Pen p) → p'.kept ≡ p.kept → p'.made ≡ p.made
     → ((n crank : ℕ) → Stands s.words p n → Tops s.views p (get_or s.words 1 0) crank
     → (n' : ℕ) × Goes (world_of s.words p n) (world_of (set s.words i new) p' n') × Stands (set s.words i new) p' n'
-        × Tops (set s.views 0 (Pen p')) p' (get_or (set s.words i new) 1 0) crank)
+    × Tops (set s.views 0 (Pen p')) p' (get_or (set s.words i new) 1 0) crank)
     → Rule (stepped s i new 0 [] (Pen p') keeps)
 pen_step s r p p' i new at ks ms next = let same : r.pen ≡ p = pen_same r.pen p (sym r.seated ∙ at) in let here = in_list s.views 0 (Pen p) at in
     let stands : Stands s.words p r.last = subst (λ (q : PenView). Stands s.words q r.last) same r.stands in
     let tops : Tops s.views p (get_or s.words 1 0) r.crank = subst (λ (q : PenView). Tops s.views q (get_or s.words 1 0) r.crank) same r.tops in
-        let t = next r.last r.crank stands tops in record {
+    let t = next r.last r.crank stands tops in record {
       pen = p';
       last = t.0;
       crank = r.crank;
@@ -87,7 +87,7 @@ pen_step s r p p' i new at ks ms next = let same : r.pen ≡ p = pen_same r.pen 
           (subst (λ (q : PenView). Numbers s.views q.kept q.made) same r.numbers);
       each = λ j v e far. ⊎_elim (λ (x : (j ≡ 0) × (Pen p' ≡ v)). let z = x.0 in absurd (omega arith))
           (λ (x : (j ≢ 0) × (get_elem? s.views j ≡ some v)). grow (world_of s.words p r.last) (world_of (set s.words i new) p' t.0) t.1 v
-              (subst (λ (q : PenView). Fits (world_of s.words q r.last) v) same (r.each j v x.1 far)))
+          (subst (λ (q : PenView). Fits (world_of s.words q r.last) v) same (r.each j v x.1 far)))
           (at_set s.views 0 j (Pen p') v e);
     }
 
@@ -181,7 +181,7 @@ bare_stays words words' t t' up mark field b = record {
   fields = λ m f above low small. field m f above low small ∙ b.fields m f (omega arith) low small;
 }
 
-two_fields : (h : Hands) (f x : ℕ) → get_elem? (pack h) f ≡ some x → f < 15
+pub two_fields : (h : Hands) (f x : ℕ) → get_elem? (pack h) f ≡ some x → f < 15
 two_fields h f x e = let p = in_list (pack h) f x e in omega (arith, length-pack h)
 
 -- a slot whose mark and fields stay
@@ -216,7 +216,7 @@ pub slots_low : (words : List ℕ) (p p' : PenView) (n i x : ℕ) → length wor
 slots_low words p p' n i x wide low journal marked is-set winding stored f = record {
   slots = λ m h e. let t = f.slots m h (subst (λ (l : List Hands). get_elem? l m ≡ some h) journal e) in
       subst (λ b. SlotIs (set words i x) n b m h) (sym marked) (slot_stays words (set words i x) n n p.marked p.marked m h t
-          (low_keeps_mark words wide i m x low) (λ g small. low_keeps_field words wide i m g x low) t.top t.whole);
+      (low_keeps_mark words wide i m x low) (λ g small. low_keeps_field words wide i m g x low) t.top t.whole);
   opened = λ e. winding ∙ f.opened (sym marked ∙ e);
   started = λ a b. low_keeps_mark words wide i (n + 1) x low ∙ f.started (sym marked ∙ a) (sym is-set ∙ b);
   finished = λ e. let d = f.finished (sym is-set ∙ e) in (marked ∙ d.0, low_keeps_mark words wide i (n + 1) x low ∙ d.1);
@@ -235,10 +235,10 @@ starts slots p n closed long s r _ at _ = (
       let wide = f.wide in let was : turn_of p k ≡ 2 * n = rw (closed, same) (omega arith) in
       let ws : List ℕ = set s.words 0 (2 * n + 1) in let c : ℕ = get_or s.words 1 0 in let c' = counter_stays s.words 0 (2 * n + 1) (λ e. omega arith) in
       let up : turn_of p k ≤ 2 * n + 1 = omega arith in let old = λ (m : ℕ) (z : m < length p.journal) (e : marks_of ws m ≡ full_mark m). sym
-          (low_keeps_mark s.words wide 0 m (2 * n + 1) (omega arith)) ∙ e in
+      (low_keeps_mark s.words wide 0 m (2 * n + 1) (omega arith)) ∙ e in
       let goes = goes_same p.journal (turn_of p k) (2 * n + 1) (marks_of s.words) (marks_of ws) c (get_or ws 1 0) (or_else p.loaded c)
-          (get_or ws 1 0) p.made p.made up old (subst (λ y. c ≤ y) (sym c') (le_refl c))
-          (subst (λ y. or_else p.loaded c ≤ y) (sym c') f.counter.bound) (le_refl p.made) in (
+      (get_or ws 1 0) p.made p.made up old (subst (λ y. c ≤ y) (sym c') (le_refl c))
+      (subst (λ y. or_else p.loaded c ≤ y) (sym c') f.counter.bound) (le_refl p.made) in (
         n,
         goes,
         record {
@@ -250,7 +250,7 @@ starts slots p n closed long s r _ at _ = (
             slots = λ m h e. let t = f.slots.slots m h e in let top = t.top in let d : ℕ = cond p.marked 1 0 in
                 let none-yet : d ≡ 0 = unmarked p.marked p.winding f.slots.opened closed in
                 slot_stays s.words ws k n p.marked false m h t (low_keeps_mark s.words wide 0 m (2 * n + 1) (omega arith))
-                    (λ g small. low_keeps_field s.words wide 0 m g (2 * n + 1) (omega arith)) (omega arith) (λ le. t.whole (omega arith));
+                (λ g small. low_keeps_field s.words wide 0 m g (2 * n + 1) (omega arith)) (omega arith) (λ le. t.whole (omega arith));
             opened = λ e. absurd (true≢false (sym e));
             started = λ e. absurd (true≢false (sym e));
             finished = λ e. absurd (true≢false (sym e));
@@ -258,8 +258,13 @@ starts slots p n closed long s r _ at _ = (
             bare = bare_low s.words wide (k + cond p.marked 1 0) (n + 0) 0 (2 * n + 1) (omega arith)
                 (let d : ℕ = cond p.marked 1 0 in let none-yet : d ≡ 0 = unmarked p.marked p.winding f.slots.opened closed in omega arith) f.slots.bare;
           };
-          counter = subst (λ y. CounterStands y (turn_started p)) (sym c') record { small = f.counter.small;
-              ticks = λ m h e. le_trans (f.counter.ticks m h e) f.counter.bound; bound = le_refl c; counted = f.counter.counted; closed = λ _. refl };
+          counter = subst (λ y. CounterStands y (turn_started p)) (sym c') record {
+            small = f.counter.small;
+            ticks = λ m h e. le_trans (f.counter.ticks m h e) f.counter.bound;
+            bound = le_refl c;
+            counted = f.counter.counted;
+            closed = λ _. refl;
+          };
           legal = f.legal;
           back = f.back;
           kept = grow_kept (world_of s.words p k) (world_of ws (turn_started p) n) goes p.kept f.kept;
@@ -273,9 +278,9 @@ starts slots p n closed long s r _ at _ = (
 -- a step of the pen on a slot, which leaves the journal, the turn word and the counter
 slot_step : (s : St) (r : Rule s) (p p' : PenView) (n i x : ℕ) → get_elem? s.views 0 ≡ some (Pen p) → length p.journal ≡ n + 1 → 1 < i
     → p'.journal ≡ p.journal → p'.winding ≡ p.winding → p'.loaded ≡ p.loaded → p'.made ≡ p.made → p'.kept ≡ p.kept → p'.out ≡ p.out → p'.top ≡ p.top
-        → p'.counters ≡ p.counters
+    → p'.counters ≡ p.counters
     → (Stands s.words p n → ((m : ℕ) → m < length p.journal → marks_of (set s.words i x) m ≡ full_mark m → marks_of s.words m ≡ full_mark m)
-        × SlotsStand (set s.words i x) p' n)
+    × SlotsStand (set s.words i x) p' n)
     → Rule (stepped s i x 0 [] (Pen p') keeps)
 slot_step s r p p' n i x at long far journal winding loaded made kept out top counters next =
     pen_step s r p p' i x at kept made (λ k crank f tops. let same : k ≡ n = one_last k n (sym f.long ∙ long) in
@@ -284,7 +289,7 @@ slot_step s r p p' n i x at long far journal winding loaded made kept out top co
     let w' : World = world p.journal (turn_of p n) (marks_of ws) c (or_else p.loaded c) p.made in
     let is : world_of ws p' n ≡ w' = λ j. world (journal j) (2 * n + cond (winding j) 1 0) (marks_of ws) (c' j) (or_else (loaded j) (c' j)) (made j) in
     let goes : Goes (world_of s.words p n) w' = goes_same p.journal (turn_of p n) (turn_of p n) (marks_of s.words) (marks_of ws) c c
-        (or_else p.loaded c) (or_else p.loaded c) p.made p.made (le_refl (turn_of p n)) t.0 (le_refl c) (le_refl (or_else p.loaded c)) (le_refl p.made) in
+    (or_else p.loaded c) (or_else p.loaded c) p.made p.made (le_refl (turn_of p n)) t.0 (le_refl c) (le_refl (or_else p.loaded c)) (le_refl p.made) in
     let goes' : Goes (world_of s.words p n) (world_of ws p' n) = subst (Goes (world_of s.words p n)) (sym is) goes in (
       n,
       subst (λ j. Goes (world_of s.words p j) (world_of ws p' n)) (sym same) goes',
@@ -298,7 +303,7 @@ slot_step s r p p' n i x at long far journal winding loaded made kept out top co
           small = f.counter.small;
           ticks = λ m h e. subst (λ l. h.count ≤ or_else l c) (sym loaded) (f.counter.ticks m h (subst (λ (l : List Hands). get_elem? l m ≡ some h) journal e));
           bound = subst (λ l. or_else l c ≤ c) (sym loaded) f.counter.bound;
-          counted = subst (AllBelow c) (sym counters) f.counter.counted;
+          counted = subst (AllAtMost c) (sym counters) f.counter.counted;
           closed = λ e. loaded ∙ f.counter.closed (sym winding ∙ e);
         };
         legal = subst IsJournal (sym journal) f.legal;
@@ -335,7 +340,7 @@ module _ (words : List ℕ) (p : PenView) (n x : ℕ) (f : Stands words p n) (is
   remarked_old : (m : ℕ) → m < length p.journal → marks_of ws m ≡ full_mark m → marks_of words m ≡ full_mark m
   remarked_old m near e = let long = f.long in dite (ℕ_discrete (m % 10) ((n + 1) % 10))
       (λ here. let v = mark_here words f.wide m (n + 1) x here in
-          ⊎_elim (λ (odd : x ≡ 2 * (n + 1) + 1). absurd (omega arith)) (λ (even : x ≡ 2 * (n + 1) + 2). absurd (omega arith)) is)
+      ⊎_elim (λ (odd : x ≡ 2 * (n + 1) + 1). absurd (omega arith)) (λ (even : x ≡ 2 * (n + 1) + 2). absurd (omega arith)) is)
       (λ ne. sym (mark_far words f.wide m (n + 1) x ne) ∙ e)
 
   remarked_bare : AreBare ws (n + 1)
@@ -351,7 +356,7 @@ same_slot words m a e = ap (λ k. get_or words (2 + 16 * k) 0) e
 
 marks : (slots : ℕ) (p : PenView) (n : ℕ) → p.winding ≡ true → p.marked ≡ false → length p.journal ≡ n + 1
     → Allows Rule slots 0 (Pen p, []) (mark_at (n + 1)) (λ _. 2 * (n + 1) + 1)
-        (λ _. StartsMark (step slots (mark_at (n + 1)) (2 * (n + 1) + 1) 0 none) (Pen p, []) (2 * (n + 1) + 1))
+    (λ _. StartsMark (step slots (mark_at (n + 1)) (2 * (n + 1) + 1) 0 none) (Pen p, []) (2 * (n + 1) + 1))
 marks slots p n opened unmarked long s r _ at _ = let x : ℕ = 2 * (n + 1) + 1 in (
   Pen (mark_started p),
   keeps,
@@ -372,7 +377,7 @@ marks slots p n opened unmarked long s r _ at _ = let x : ℕ = 2 * (n + 1) + 1 
 
 sets : (slots : ℕ) (p : PenView) (n : ℕ) → p.winding ≡ true → p.marked ≡ true → length p.stored ≡ 15 → length p.journal ≡ n + 1
     → Allows Rule slots 0 (Pen p, []) (mark_at (n + 1)) (λ _. full_mark (n + 1))
-        (λ _. SetsMark (step slots (mark_at (n + 1)) (full_mark (n + 1)) 0 none) (Pen p, []) (full_mark (n + 1)))
+    (λ _. SetsMark (step slots (mark_at (n + 1)) (full_mark (n + 1)) 0 none) (Pen p, []) (full_mark (n + 1)))
 sets slots p n opened marked whole long s r _ at _ = let x : ℕ = full_mark (n + 1) in (
   Pen (mark_set p),
   keeps,
@@ -399,7 +404,7 @@ module _ (words : List ℕ) (p : PenView) (n g x : ℕ) (f : Stands words p n) (
   stored_slot m h at (yes e) = let t = f.slots.slots m h at in let near = in_list p.journal m h at in let long = f.long in
       let v : marks_of words m ≡ 2 * (n + 1) + 1 = same_slot words m (n + 1) e ∙ f.slots.started marked unset in
       let k-is : t.k ≡ n + 1 = ⊎_elim (λ (odd : marks_of words m ≡ 2 * t.k + 1). omega arith)
-          (λ (even : marks_of words m ≡ 2 * t.k + 2). absurd (omega arith)) t.mark in
+      (λ (even : marks_of words m ≡ 2 * t.k + 2). absurd (omega arith)) t.mark in
       let mark = field_keeps_mark words f.wide m (n + 1) g x small in record {
         k = t.k;
         mark = subst (λ u. IsMark u t.k) (sym mark) t.mark;
@@ -411,44 +416,44 @@ module _ (words : List ℕ) (p : PenView) (n g x : ℕ) (f : Stands words p n) (
       }
   stored_slot m h at (no ne) = let t = f.slots.slots m h at in
       slot_stays words (set words (field_at (n + 1) g) x) n n p.marked p.marked m h t (field_keeps_mark words f.wide m (n + 1) g x small)
-          (λ i small'. field_far words f.wide m i (n + 1) g x ne small small') t.top t.whole
+      (λ i small'. field_far words f.wide m i (n + 1) g x ne small small') t.top t.whole
 
   stored_bare : AreBare (set words (field_at (n + 1) g) x) (n + cond p.marked 1 0)
   stored_bare = let d : ℕ = cond p.marked 1 0 in let one : d ≡ 1 = ap (λ b. cond b 1 0) marked in
       bare_stays words (set words (field_at (n + 1) g) x) (n + cond p.marked 1 0) (n + cond p.marked 1 0) (le_refl (n + cond p.marked 1 0))
       (λ m _ _. field_keeps_mark words f.wide m (n + 1) g x small)
-          (λ m i above low small'. field_far words f.wide m i (n + 1) g x (λ e. omega arith) small small') f.slots.bare
+      (λ m i above low small'. field_far words f.wide m i (n + 1) g x (λ e. omega arith) small small') f.slots.bare
 
 stored_more : (words stored : List ℕ) (n x : ℕ) → length words ≡ 162 → length stored < 15
     → ((i y : ℕ) → get_elem? stored i ≡ some y → get_or words (field_at (n + 1) i) 0 ≡ y)
     → (i y : ℕ) → get_elem? (stored ++ x ∷ []) i ≡ some y → get_or (set words (field_at (n + 1) (length stored)) x) (field_at (n + 1) i) 0 ≡ y
 stored_more words stored n x wide small before i y e = ⊎_elim
     (λ (was : get_elem? stored i ≡ some y). let near = in_list stored i y was in
-        get_or-set_other words (field_at (n + 1) (length stored)) (field_at (n + 1) i) x 0 (λ z. omega arith) ∙ before i y was)
+    get_or-set_other words (field_at (n + 1) (length stored)) (field_at (n + 1) i) x 0 (λ z. omega arith) ∙ before i y was)
     (λ (new : (i ≡ length stored) × (x ≡ y)). let i-is = new.0 in
-        let place : field_at (n + 1) i ≡ field_at (n + 1) (length stored) = ap (field_at (n + 1)) i-is in
+    let place : field_at (n + 1) i ≡ field_at (n + 1) (length stored) = ap (field_at (n + 1)) i-is in
     rw place (get_or-set_same words (field_at (n + 1) (length stored)) x 0 (omega arith) ∙ new.1))
     (at_end stored x y i e)
 
 stores : (slots : ℕ) (p : PenView) (n x : ℕ) → p.winding ≡ true → p.marked ≡ true → p.set ≡ false → length p.stored < 15 → length p.journal ≡ n + 1
     → Allows Rule slots 0 (Pen p, []) (field_at (n + 1) (length p.stored)) (λ _. x)
-        (λ _. Stores (step slots (field_at (n + 1) (length p.stored)) x 0 none) (Pen p, []) x)
+    (λ _. Stores (step slots (field_at (n + 1) (length p.stored)) x 0 none) (Pen p, []) x)
 stores slots p n x opened marked unset small long s r _ at _ = let g : ℕ = length p.stored in (
   Pen (field_stored x p),
   keeps,
   tt,
   slot_step s r p (field_stored x p) n (field_at (n + 1) g) x at long (omega arith) refl refl refl refl refl refl refl refl
       (λ f. let wide = f.wide in let keeps_mark = λ (m : ℕ). field_keeps_mark s.words wide m (n + 1) g x small in (
-    (λ m z e. sym (keeps_mark m) ∙ e),
-    record {
-      slots = λ m h e. stored_slot s.words p n g x f marked unset small m h e (ℕ_discrete (m % 10) ((n + 1) % 10));
-      opened = f.slots.opened;
-      started = λ a b. keeps_mark (n + 1) ∙ f.slots.started a b;
-      finished = λ e. absurd (true≢false (sym e ∙ unset));
-      stored = λ a i y e. stored_more s.words p.stored n x wide small (f.slots.stored a) i y e;
-      bare = stored_bare s.words p n g x f marked unset small;
-    },
-  )),
+        (λ m z e. sym (keeps_mark m) ∙ e),
+        record {
+          slots = λ m h e. stored_slot s.words p n g x f marked unset small m h e (ℕ_discrete (m % 10) ((n + 1) % 10));
+          opened = f.slots.opened;
+          started = λ a b. keeps_mark (n + 1) ∙ f.slots.started a b;
+          finished = λ e. absurd (true≢false (sym e ∙ unset));
+          stored = λ a i y e. stored_more s.words p.stored n x wide small (f.slots.stored a) i y e;
+          bare = stored_bare s.words p n g x f marked unset small;
+        },
+      )),
   refl,
 )
 
@@ -458,8 +463,8 @@ closed_slot : (words : List ℕ) (p : PenView) (n : ℕ) (f : Stands words p n) 
 closed_slot words p n f is-set ws m g e mark fields = let t = f.slots.slots m g e in let done = f.slots.finished is-set in let marked = done.0 in
     let top : t.k ≤ n + 1 = subst (λ b. t.k ≤ n + cond b 1 0) marked t.top in
     slot_stays words ws n (n + 1) p.marked false m g t mark fields (omega arith)
-        (λ _. dite (ℕ_discrete t.k (n + 1)) (λ z. same_slot words m (n + 1) (sym t.same ∙ ap (λ j. j % 10) z) ∙ (done.1 ∙ ap full_mark (sym z)))
-        (λ ne. t.whole (omega arith)))
+    (λ _. dite (ℕ_discrete t.k (n + 1)) (λ z. same_slot words m (n + 1) (sym t.same ∙ ap (λ j. j % 10) z) ∙ (done.1 ∙ ap full_mark (sym z)))
+    (λ ne. t.whole (omega arith)))
 
 new_slot : (words : List ℕ) (p : PenView) (n : ℕ) (h : Hands) (f : Stands words p n) → p.set ≡ true → p.stored ≡ pack h
     → (ws : List ℕ) → marks_of ws (n + 1) ≡ marks_of words (n + 1)
@@ -480,7 +485,7 @@ pub can_be_read : (J : List Hands) (n : ℕ) (h : Hands) → length J ≡ n + 1 
 can_be_read J n h long legal next ranges = let more : List Hands = J ++ h ∷ [] in
     let end : length more - 1 ≡ length J = omega (arith, length-append J (h ∷ [])) in
     let last : slice_get more (length more - 1) ≡ Some h = subst (λ i. slice_get more i ≡ Some h) (sym end)
-        (to_Some more (length J) h (at_last J h (length J) refl)) in
+    (to_Some more (length J) h (at_last J h (length J) refl)) in
     unpack-pack h ranges (sound-leap h record { ticks = more; journal = legal_more J n h long legal next; last = last })
 
 closes : (slots : ℕ) (p : PenView) (n : ℕ) (h : Hands) → p.winding ≡ true → p.set ≡ true → length p.journal ≡ n + 1 → length p.journal < 2 ^ 62
@@ -489,21 +494,21 @@ closes : (slots : ℕ) (p : PenView) (n : ℕ) (h : Hands) → p.winding ≡ tru
 closes slots p n h opened is-set long room stored ranges loaded next s r _ at _ =
     let legal : IsJournal p.journal = subst (λ (q : PenView). IsJournal q.journal) (pen_same r.pen p (sym r.seated ∙ at)) r.stands.legal in
     let again : unpack (pack h) ≡ h = can_be_read p.journal n h long legal next ranges in let is : unpack p.stored ≡ h = ap unpack stored ∙ again in
-        let longer = length-append p.journal (unpack p.stored ∷ []) in let ws : List ℕ = set s.words 0 (2 * n + 2) in let low : 0 < 2 = omega arith in (
+    let longer = length-append p.journal (unpack p.stored ∷ []) in let ws : List ℕ = set s.words 0 (2 * n + 2) in let low : 0 < 2 = omega arith in (
       Pen (turn_closed p),
       keeps,
       tt,
       pen_step s r p (turn_closed p) 0 (2 * n + 2) at refl refl (λ k crank f tops. let same : k ≡ n = one_last k n (sym f.long ∙ long) in
           let f' : Stands s.words p n = subst (Stands s.words p) same f in let wide = f'.wide in
           let c : ℕ = get_or s.words 1 0 in let c' = counter_stays s.words 0 (2 * n + 2) (λ e. omega arith) in
-              let count-is : or_else p.loaded c ≡ h.count = ap (λ l. or_else l c) loaded in
+          let count-is : or_else p.loaded c ≡ h.count = ap (λ l. or_else l c) loaded in
           let was : turn_of p k ≡ 2 * n + 1 = rw (opened, same) (omega arith) in let up : turn_of p k ≤ 2 * (n + 1) + 0 = omega arith in
           let bound : or_else p.loaded c ≤ (unpack p.stored).count = subst (λ (g : Hands). or_else p.loaded c ≤ g.count) (sym is)
-              (subst (λ y. or_else p.loaded c ≤ y) count-is (le_refl (or_else p.loaded c))) in
+          (subst (λ y. or_else p.loaded c ≤ y) count-is (le_refl (or_else p.loaded c))) in
           let keeps_mark = λ (m : ℕ). low_keeps_mark s.words wide 0 m (2 * n + 2) low in
-              let old = λ (m : ℕ) (z : m < length p.journal) (e : marks_of ws m ≡ full_mark m). sym (keeps_mark m) ∙ e in let done = f'.slots.finished is-set in
+          let old = λ (m : ℕ) (z : m < length p.journal) (e : marks_of ws m ≡ full_mark m). sym (keeps_mark m) ∙ e in let done = f'.slots.finished is-set in
           let goes = goes_on p.journal (unpack p.stored) (turn_of p k) (2 * (n + 1) + 0) (marks_of s.words) (marks_of ws) c (get_or ws 1 0)
-              (or_else p.loaded c) (get_or ws 1 0) p.made up old (subst (λ y. c ≤ y) (sym c') (le_refl c)) bound in (
+          (or_else p.loaded c) (get_or ws 1 0) p.made up old (subst (λ y. c ≤ y) (sym c') (le_refl c)) bound in (
             n + 1,
             goes,
             record {
@@ -515,8 +520,8 @@ closes slots p n h opened is-set long room stored ranges loaded next s r _ at _ 
                 slots = λ m g e. ⊎_elim (λ (there : get_elem? p.journal m ≡ some g). closed_slot s.words p n f' is-set ws m g there (keeps_mark m)
                     (λ i _. low_keeps_field s.words wide 0 m i (2 * n + 2) low))
                     (λ (new : (m ≡ length p.journal) × (unpack p.stored ≡ g)). subst (λ (z : ℕ × Hands). SlotIs ws (n + 1) false z.0 z.1)
-                        (λ i. (sym (new.0 ∙ long) i, (sym is ∙ new.1) i)) (new_slot s.words p n h f' is-set stored ws (keeps_mark (n + 1))
-                        (λ i. low_keeps_field s.words wide 0 (n + 1) i (2 * n + 2) low)))
+                    (λ i. (sym (new.0 ∙ long) i, (sym is ∙ new.1) i)) (new_slot s.words p n h f' is-set stored ws (keeps_mark (n + 1))
+                    (λ i. low_keeps_field s.words wide 0 (n + 1) i (2 * n + 2) low)))
                     (at_end p.journal (unpack p.stored) g m e);
                 opened = λ e. absurd (true≢false (sym e));
                 started = λ e. absurd (true≢false (sym e));
@@ -529,7 +534,7 @@ closes slots p n h opened is-set long room stored ranges loaded next s r _ at _ 
                 small = f.counter.small;
                 ticks = λ m g e. ⊎_elim (λ (there : get_elem? p.journal m ≡ some g). le_trans (f.counter.ticks m g there) f.counter.bound)
                     (λ (new : unpack p.stored ≡ g). subst (λ (x : Hands). x.count ≤ c) (sym is ∙ new) (subst (λ y. y ≤ c) count-is f.counter.bound))
-                        (at_snoc p.journal (unpack p.stored) g m e);
+                    (at_snoc p.journal (unpack p.stored) g m e);
                 bound = le_refl c;
                 counted = f.counter.counted;
                 closed = λ _. refl;
@@ -561,24 +566,29 @@ own_counter : (s : St) (r : Rule s) (p : PenView) → get_elem? s.views 0 ≡ so
 own_counter s r p at = let same : r.pen ≡ p = pen_same r.pen p (sym r.seated ∙ at) in let c : ℕ = get_or s.words 1 0 in
     let stands : Stands s.words p r.last = subst (λ (q : PenView). Stands s.words q r.last) same r.stands in
     let tops : Tops s.views p c r.crank = subst (λ (q : PenView). Tops s.views q c r.crank) same r.tops in
-    record { top = top_below s.views p c r.crank p.out refl tops; home = tops.home;
-        reached = λ m h e. le_trans (stands.counter.ticks m h e) stands.counter.bound; small = stands.counter.small; later = stands.counter.counted }
+    record {
+      top = top_below s.views p c r.crank p.out refl tops;
+      home = tops.home;
+      reached = λ m h e. le_trans (stands.counter.ticks m h e) stands.counter.bound;
+      small = stands.counter.small;
+      later = stands.counter.counted;
+    }
 
 counts : (slots : ℕ) (p : PenView) (n : ℕ) → length p.journal ≡ n + 1
     → Allows Rule slots 0 (Pen p, []) 1 (λ x. x) (LoadsOwnCounter (step slots 1 0 0 none) (Pen p, []))
 counts slots p n long s r _ at _ = let c : ℕ = get_or s.words 1 0 in let p' = pen_counted c p in let same-words = set-get_or s.words 1 0 in
     let same : r.pen ≡ p = pen_same r.pen p (sym r.seated ∙ at) in
-        let stands : Stands s.words p r.last = subst (λ (q : PenView). Stands s.words q r.last) same r.stands in
+    let stands : Stands s.words p r.last = subst (λ (q : PenView). Stands s.words q r.last) same r.stands in
     let tops' : Tops s.views p c r.crank = subst (λ (q : PenView). Tops s.views q c r.crank) same r.tops in (
       Pen p',
       keeps,
       tt,
       pen_step s r p p' 1 c at refl refl (λ k crank f tops.
           let goes : Goes (world_of s.words p k) (world_of s.words p' k) = goes_same p.journal (turn_of p k) (turn_of p k) (marks_of s.words)
-              (marks_of s.words) c c (or_else p.loaded c) (or_else (loaded_if p.winding c) c) p.made p.made (le_refl (turn_of p k)) (λ m z e. e) (le_refl c)
+          (marks_of s.words) c c (or_else p.loaded c) (or_else (loaded_if p.winding c) c) p.made p.made (le_refl (turn_of p k)) (λ m z e. e) (le_refl c)
           (subst (λ y. or_else p.loaded c ≤ y) (sym (bound_after p.winding c)) f.counter.bound) (le_refl p.made) in
           subst (λ (ws : List ℕ). (n' : ℕ) × Goes (world_of s.words p k) (world_of ws p' n') × Stands ws p' n'
-              × Tops (set s.views 0 (Pen p')) p' (get_or ws 1 0) crank) (sym same-words) (
+          × Tops (set s.views 0 (Pen p')) p' (get_or ws 1 0) crank) (sym same-words) (
             k,
             goes,
             record {
@@ -586,8 +596,14 @@ counts slots p n long s r _ at _ = let c : ℕ = get_or s.words 1 0 in let p' = 
               long = f.long;
               few = f.few;
               turn = f.turn;
-              slots = record { slots = f.slots.slots; opened = f.slots.opened; started = f.slots.started; finished = f.slots.finished;
-                  stored = f.slots.stored; bare = f.slots.bare };
+              slots = record {
+                slots = f.slots.slots;
+                opened = f.slots.opened;
+                started = f.slots.started;
+                finished = f.slots.finished;
+                stored = f.slots.stored;
+                bare = f.slots.bare;
+              };
               counter = record {
                 small = f.counter.small;
                 ticks = λ m h e. subst (λ y. h.count ≤ y) (sym (bound_after p.winding c)) (le_trans (f.counter.ticks m h e) f.counter.bound);
@@ -610,39 +626,39 @@ raises : (slots : ℕ) (p : PenView) (n to : ℕ) → length p.journal ≡ n + 1
     → Allows Rule slots 0 (Pen p, []) 1 (λ x. max x to) (Raises (step slots 1 to 0 none) (Pen p, []))
 raises slots p n to long few s r _ at _ = let c : ℕ = get_or s.words 1 0 in let c' : ℕ = max c to in let p' = top_raised to c' p in
     let ws : List ℕ = set s.words 1 c' in let low : 1 < 2 = omega arith in (
-  Pen p',
-  keeps,
-  tt,
-  pen_step s r p p' 1 c' at refl refl (λ k crank f tops. let wide = f.wide in
-      let is : get_or ws 1 0 ≡ c' = get_or-set_same s.words 1 c' 0 (omega arith) in let up : c ≤ c' = omega arith in
-      let old = λ (m : ℕ) (z : m < length p.journal) (e : marks_of ws m ≡ full_mark m). sym (low_keeps_mark s.words wide 1 m c' low) ∙ e in
+      Pen p',
+      keeps,
+      tt,
+      pen_step s r p p' 1 c' at refl refl (λ k crank f tops. let wide = f.wide in
+          let is : get_or ws 1 0 ≡ c' = get_or-set_same s.words 1 c' 0 (omega arith) in let up : c ≤ c' = omega arith in
+          let old = λ (m : ℕ) (z : m < length p.journal) (e : marks_of ws m ≡ full_mark m). sym (low_keeps_mark s.words wide 1 m c' low) ∙ e in
           let small = f.counter.small in
-      let goes : Goes (world_of s.words p k) (world_of ws p' k) = goes_same p.journal (turn_of p k) (turn_of p k) (marks_of s.words) (marks_of ws) c
+          let goes : Goes (world_of s.words p k) (world_of ws p' k) = goes_same p.journal (turn_of p k) (turn_of p k) (marks_of s.words) (marks_of ws) c
           (get_or ws 1 0) (or_else p.loaded c) (or_else p.loaded (get_or ws 1 0)) p.made p.made (le_refl (turn_of p k)) old
-      (subst (λ y. c ≤ y) (sym is) up) (subst (λ y. or_else p.loaded c ≤ or_else p.loaded y) (sym is) (or_else_up p.loaded c c' up)) (le_refl p.made) in (
-        k,
-        goes,
-        record {
-          wide = length-set s.words 1 c' ∙ wide;
-          long = f.long;
-          few = f.few;
-          turn = get_or-set_other s.words 1 0 c' 0 (λ e. omega arith) ∙ f.turn;
-          slots = slots_low s.words p p' k 1 c' wide low refl refl refl refl refl f.slots;
-          counter = subst (λ y. CounterStands y p') (sym is) record {
-            small = omega arith;
-            ticks = λ m h e. le_trans (f.counter.ticks m h e) (or_else_up p.loaded c c' up);
-            bound = bound_up p.loaded c c' up f.counter.bound;
-            counted = λ i x e. le_trans (f.counter.counted i x e) up;
-            closed = f.counter.closed;
-          };
-          legal = f.legal;
-          back = f.back;
-          kept = grow_kept (world_of s.words p k) (world_of ws p' k) goes p.kept f.kept;
-        },
-        subst (λ y. Tops (set s.views 0 (Pen p')) p' y crank) (sym is) (raised_tops s.views p c crank to at tops),
-      )),
-  (refl, own_counter s r p at),
-)
+          (subst (λ y. c ≤ y) (sym is) up) (subst (λ y. or_else p.loaded c ≤ or_else p.loaded y) (sym is) (or_else_up p.loaded c c' up)) (le_refl p.made) in (
+            k,
+            goes,
+            record {
+              wide = length-set s.words 1 c' ∙ wide;
+              long = f.long;
+              few = f.few;
+              turn = get_or-set_other s.words 1 0 c' 0 (λ e. omega arith) ∙ f.turn;
+              slots = slots_low s.words p p' k 1 c' wide low refl refl refl refl refl f.slots;
+              counter = subst (λ y. CounterStands y p') (sym is) record {
+                small = omega arith;
+                ticks = λ m h e. le_trans (f.counter.ticks m h e) (or_else_up p.loaded c c' up);
+                bound = bound_up p.loaded c c' up f.counter.bound;
+                counted = λ i x e. le_trans (f.counter.counted i x e) up;
+                closed = f.counter.closed;
+              };
+              legal = f.legal;
+              back = f.back;
+              kept = grow_kept (world_of s.words p k) (world_of ws p' k) goes p.kept f.kept;
+            },
+            subst (λ y. Tops (set s.views 0 (Pen p')) p' y crank) (sym is) (raised_tops s.views p c crank to at tops),
+          )),
+      (refl, own_counter s r p at),
+    )
   where
     bound_up : (l : Option ℕ) (c c' : ℕ) → c ≤ c' → or_else l c ≤ c → or_else l c' ≤ c'
     bound_up None c c' up b = le_refl c'
@@ -652,8 +668,12 @@ raises slots p n to long few s r _ at _ = let c : ℕ = get_or s.words 1 0 in le
         → Tops (set views 0 (Pen (top_raised to (max c to) p))) (top_raised to (max c to) p) (max c to) crank
     raised_tops views p c crank to at t = record {
       home = λ e. ap (λ y. max y to) (t.home e);
-      away = λ e. let a = t.away e in let h = a.2 in (a.0, set_else views 0 crank (Pen (top_raised to (max c to) p))
-          (λ z. no_crank (Pen p) a.0 tt (some-injective _ _ (sym at ∙ subst (λ i. get_elem? views i ≡ some (Crank a.0)) z a.1))) ∙ a.1, omega arith);
+      away = λ e. let a = t.away e in let h = a.2 in (
+        a.0,
+        set_else views 0 crank (Pen (top_raised to (max c to) p))
+            (λ z. no_crank (Pen p) a.0 tt (some-injective _ _ (sym at ∙ subst (λ i. get_elem? views i ≡ some (Crank a.0)) z a.1))) ∙ a.1,
+        omega arith,
+      );
       only = λ j k e. ⊎_elim (λ (x : (j ≡ 0) × (Pen (top_raised to (max c to) p) ≡ Crank k)). absurd
           (no_crank (Pen (top_raised to (max c to) p)) k tt x.1)) (λ (x : (j ≢ 0) × (get_elem? views j ≡ some (Crank k))). t.only j k x.1)
           (at_set views 0 j (Pen (top_raised to (max c to) p)) (Crank k) e);
@@ -678,7 +698,7 @@ pub marks_at : (slots id : ℕ) (m : Me (Unit {0}) View) (p : PenView) (n word x
 marks_at slots id m p n word x z is opened unmarked long w e =
     subst (λ y. Allows Rule slots id m word (λ _. y) (λ _. StartsMark (step slots word y 0 none) m y)) (sym e)
     (at_pen slots (λ _. 2 * (n + 1) + 1) (λ u m' _. StartsMark (step slots u (2 * (n + 1) + 1) 0 none) m' (2 * (n + 1) + 1)) id m p word
-        (mark_at (n + 1)) z is w (marks slots p n opened unmarked long))
+    (mark_at (n + 1)) z is w (marks slots p n opened unmarked long))
 
 pub stores_at : (slots id : ℕ) (m : Me (Unit {0}) View) (p : PenView) (n f word x : ℕ) → id ≡ 0 → m ≡ (Pen p, []) → p.winding ≡ true
     → p.marked ≡ true → p.set ≡ false → f ≡ length p.stored → f < 15 → length p.journal ≡ n + 1 → word ≡ field_at (n + 1) f
@@ -693,7 +713,7 @@ pub sets_at : (slots id : ℕ) (m : Me (Unit {0}) View) (p : PenView) (n word x 
 sets_at slots id m p n word x z is opened marked whole long w e =
     subst (λ y. Allows Rule slots id m word (λ _. y) (λ _. SetsMark (step slots word y 0 none) m y)) (sym e)
     (at_pen slots (λ _. full_mark (n + 1)) (λ u m' _. SetsMark (step slots u (full_mark (n + 1)) 0 none) m' (full_mark (n + 1))) id m p word
-        (mark_at (n + 1)) z is w (sets slots p n opened marked whole long))
+    (mark_at (n + 1)) z is w (sets slots p n opened marked whole long))
 
 pub closes_at : (slots id : ℕ) (m : Me (Unit {0}) View) (p : PenView) (n x : ℕ) (h : Hands) → id ≡ 0 → m ≡ (Pen p, []) → p.winding ≡ true
     → p.set ≡ true → length p.journal ≡ n + 1 → length p.journal < 2 ^ 62 → p.stored ≡ pack h → FitsWords h → p.loaded ≡ Some h.count
@@ -702,14 +722,14 @@ pub closes_at : (slots id : ℕ) (m : Me (Unit {0}) View) (p : PenView) (n x : �
 closes_at slots id m p n x h z is opened is-set long room stored ranges loaded next e =
     subst (λ y. Allows Rule slots id m 0 (λ _. y) (λ _. Closes (step slots 0 y 0 none) m y)) (sym e)
     (at_pen slots (λ _. 2 * n + 2) (λ u m' _. Closes (step slots u (2 * n + 2) 0 none) m' (2 * n + 2)) id m p 0 0 z is refl
-        (closes slots p n h opened is-set long room stored ranges loaded next))
+    (closes slots p n h opened is-set long room stored ranges loaded next))
 
 pub follows_newest : (v w : PenView) (n : ℕ) (h : Hands) → v ≡ w → length v.journal ≡ n + 1 → Follows (newest w.journal) h
     → (g : Hands) → slice_get v.journal n ≡ Some g → Follows g h
 follows_newest v w n h same long next g at = let k : n ≡ length v.journal - 1 = omega arith in
     let there' : slice_get v.journal (length v.journal - 1) ≡ Some (newest v.journal) = slice_get-get_or v.journal (length v.journal - 1) cold (omega arith) in
     let is : newest w.journal ≡ g = ap (λ (u : PenView). newest u.journal) (sym same)
-        ∙ Some_same (newest v.journal) g (sym there' ∙ subst (λ i. slice_get v.journal i ≡ Some g) k at) in
+    ∙ Some_same (newest v.journal) g (sym there' ∙ subst (λ i. slice_get v.journal i ≡ Some g) k at) in
     subst (λ (x : Hands). Follows x h) is next
 
 pub counts_at : (slots id : ℕ) (m : Me (Unit {0}) View) (p : PenView) (n : ℕ) → id ≡ 0 → m ≡ (Pen p, []) → length p.journal ≡ n + 1
@@ -720,126 +740,3 @@ pub raises_at : (slots id : ℕ) (m : Me (Unit {0}) View) (p : PenView) (n to : 
     → Allows Rule slots id m 1 (λ x. max x to) (Raises (step slots 1 to 0 none) m)
 raises_at slots id m p n to z is long few = at_pen slots (λ x. max x to) (λ u m'. Raises (step slots u to 0 none) m') id m p 1 1 z is refl
     (raises slots p n to long few)
-
--- the words at the start: slot 0 has the cold hands
-abbrev pub first_words : List ℕ
-first_words = 0 ∷ 0 ∷ 2 ∷ 0 ∷ 0 ∷ 0 ∷ 0 ∷ 0 ∷ 0 ∷ 0 ∷ 0 ∷ 0 ∷ 0 ∷ 0 ∷ 0 ∷ 0 ∷ 0 ∷ 261 ∷ 0 ∷ 0 ∷ 0 ∷ 0 ∷ 0 ∷ 0 ∷ 0 ∷ 0 ∷ 0 ∷ 0 ∷ 0 ∷ 0 ∷ 0 ∷ 0 ∷ 0 ∷ 0
-    ∷ 0 ∷ 0 ∷ 0 ∷ 0 ∷ 0 ∷ 0 ∷ 0 ∷ 0 ∷ 0 ∷ 0 ∷ 0 ∷ 0 ∷ 0 ∷ 0 ∷ 0 ∷ 0 ∷ 0 ∷ 0 ∷ 0 ∷ 0 ∷ 0 ∷ 0 ∷ 0 ∷ 0 ∷ 0 ∷ 0 ∷ 0 ∷ 0 ∷ 0 ∷ 0 ∷ 0 ∷ 0 ∷ 0 ∷ 0 ∷ 0 ∷ 0
-    ∷ 0 ∷ 0 ∷ 0 ∷ 0 ∷ 0 ∷ 0 ∷ 0 ∷ 0 ∷ 0 ∷ 0 ∷ 0 ∷ 0 ∷ 0 ∷ 0 ∷ 0 ∷ 0 ∷ 0 ∷ 0 ∷ 0 ∷ 0 ∷ 0 ∷ 0 ∷ 0 ∷ 0 ∷ 0 ∷ 0 ∷ 0 ∷ 0 ∷ 0 ∷ 0 ∷ 0 ∷ 0 ∷ 0 ∷ 0 ∷ 0 ∷ 0
-    ∷ 0 ∷ 0 ∷ 0 ∷ 0 ∷ 0 ∷ 0 ∷ 0 ∷ 0 ∷ 0 ∷ 0 ∷ 0 ∷ 0 ∷ 0 ∷ 0 ∷ 0 ∷ 0 ∷ 0 ∷ 0 ∷ 0 ∷ 0 ∷ 0 ∷ 0 ∷ 0 ∷ 0 ∷ 0 ∷ 0 ∷ 0 ∷ 0 ∷ 0 ∷ 0 ∷ 0 ∷ 0 ∷ 0 ∷ 0 ∷ 0 ∷ 0
-    ∷ 0 ∷ 0 ∷ 0 ∷ 0 ∷ 0 ∷ 0 ∷ 0 ∷ 0 ∷ 0 ∷ 0 ∷ 0 ∷ 0 ∷ 0 ∷ 0 ∷ 0 ∷ 0 ∷ 0 ∷ 0 ∷ 0 ∷ 0 ∷ []
-
-cold_words : (f x : ℕ) → f < 15 → get_elem? (pack cold) f ≡ some x → get_or first_words (field_at 0 f) 0 ≡ x
-unfolding pack
-cold_words zero x h e = some-injective 0 x e
-cold_words (suc zero) x h e = some-injective 0 x e
-cold_words (suc (suc zero)) x h e = some-injective 0 x e
-cold_words (suc (suc (suc zero))) x h e = some-injective 0 x e
-cold_words (suc (suc (suc (suc zero)))) x h e = some-injective 0 x e
-cold_words (suc (suc (suc (suc (suc zero))))) x h e = some-injective 0 x e
-cold_words (suc (suc (suc (suc (suc (suc zero)))))) x h e = some-injective 0 x e
-cold_words (suc (suc (suc (suc (suc (suc (suc zero))))))) x h e = some-injective 0 x e
-cold_words (suc (suc (suc (suc (suc (suc (suc (suc zero)))))))) x h e = some-injective 0 x e
-cold_words (suc (suc (suc (suc (suc (suc (suc (suc (suc zero))))))))) x h e = some-injective 0 x e
-cold_words (suc (suc (suc (suc (suc (suc (suc (suc (suc (suc zero)))))))))) x h e = some-injective 0 x e
-cold_words (suc (suc (suc (suc (suc (suc (suc (suc (suc (suc (suc zero))))))))))) x h e = some-injective 0 x e
-cold_words (suc (suc (suc (suc (suc (suc (suc (suc (suc (suc (suc (suc zero)))))))))))) x h e = some-injective 0 x e
-cold_words (suc (suc (suc (suc (suc (suc (suc (suc (suc (suc (suc (suc (suc zero))))))))))))) x h e = some-injective 0 x e
-cold_words (suc (suc (suc (suc (suc (suc (suc (suc (suc (suc (suc (suc (suc (suc zero)))))))))))))) x h e = some-injective 261 x e
-cold_words (suc (suc (suc (suc (suc (suc (suc (suc (suc (suc (suc (suc (suc (suc (suc f))))))))))))))) x h e = absurd (omega arith)
-
--- behind the first slot nothing stands
-abbrev is_zero : ℕ → Bool
-is_zero zero = true
-is_zero (suc x) = false
-
-abbrev all_zero : List ℕ → Bool
-all_zero [] = true
-all_zero (x ∷ xs) = is_zero x && all_zero xs
-
-zero_at : (xs : List ℕ) → all_zero xs ≡ true → (i : ℕ) → get_or xs i 0 ≡ 0
-zero_at [] e i = refl
-zero_at (x ∷ xs) e zero = first x (all_zero xs) e
-  where
-    first : (x : ℕ) (b : Bool) → (is_zero x && b) ≡ true → x ≡ 0
-    first zero b e = refl
-    first (suc x) b e = absurd (true≢false (sym e))
-zero_at (x ∷ xs) e (suc i) = zero_at xs (rest (is_zero x) (all_zero xs) e) i
-  where
-    rest : (a b : Bool) → (a && b) ≡ true → b ≡ true
-    rest true b e = e
-    rest false b e = absurd (true≢false (sym e))
-
-nothing_at : (i : ℕ) → 18 ≤ i → get_or first_words i 0 ≡ 0
-nothing_at i above = let far : 18 + (i - 18) ≡ i = omega arith in ap (λ k. get_or first_words k 0) (sym far)
-    ∙ (sym (get_or-drop 18 first_words (i - 18) 0) ∙ zero_at (drop 18 first_words) refl (i - 18))
-
-cold_back : unpack (pack cold) ≡ cold
-unfolding pack unpack
-cold_back = refl
-
-pub begins : Rule (opening first_words [] (Pen pen_first))
-begins = record {
-  pen = pen_first;
-  last = 0;
-  seated = refl;
-  crank = 0;
-  stands = record {
-    wide = refl;
-    long = refl;
-    few = lit< tt;
-    turn = refl;
-    slots = record {
-      slots = λ m h e. first_slot m h e;
-      opened = λ e. absurd (true≢false (sym e));
-      started = λ e. absurd (true≢false (sym e));
-      finished = λ e. absurd (true≢false (sym e));
-      stored = λ e. absurd (true≢false (sym e));
-      bare = record { marks = λ m above low. nothing_at (mark_at m) (omega arith); fields = λ m f above low small. nothing_at (field_at m f) (omega arith) };
-    };
-    counter = record { small = lit< tt; ticks = λ m h e. first_count m h e; bound = le_refl 0; counted = λ i x e. absurd (some-ne-none x (sym e));
-        closed = λ _. refl };
-    legal = record { first = refl; next = λ m g x a b. absurd (alone_at m x (to_some (cold ∷ []) (m + 1) x b)) };
-    back = λ m h e. first_back m h e;
-    kept = λ i k e. absurd (some-ne-none k (sym e));
-  };
-  tops = record { home = λ _. refl; away = λ e. absurd (true≢false (sym e)); only = λ j k e. absurd (alone_crank j k e) };
-  numbers = record { one = λ i j u v n e f p q. alone_number i u n e p; apart = λ i k u q e f p. some-ne-none q (sym f);
-      once = λ j k a b e f same. absurd (some-ne-none a (sym e)); small = λ i u n e p. alone_number i u n e p;
-      small_kept = λ k q e. absurd (some-ne-none q (sym e)); every = λ n less. absurd (omega arith) };
-  each = λ j v e far. alone j v e far;
-}
-  where
-    cold_field : (f x : ℕ) → get_elem? (pack cold) f ≡ some x → get_or first_words (field_at 0 f) 0 ≡ x
-    cold_field f x e = cold_words f x (two_fields cold f x e) e
-
-    first_back : (m : ℕ) (h : Hands) → get_elem? (cold ∷ []) m ≡ some h → unpack (pack h) ≡ h
-    first_back zero h e = subst (λ (g : Hands). unpack (pack g) ≡ g) (some-injective cold h e) cold_back
-    first_back (suc m) h e = absurd (some-ne-none h (sym e))
-
-    first_slot : (m : ℕ) (h : Hands) → get_elem? (cold ∷ []) m ≡ some h → SlotIs first_words 0 false m h
-    first_slot zero h e = record { k = 0; mark = inr refl; same = refl; from = omega arith; top = omega arith; whole = λ _. refl;
-        fields = λ _ f x at. cold_field f x (ap (λ (g : Hands). get_elem? (pack g) f) (some-injective cold h e) ∙ at) }
-    first_slot (suc m) h e = absurd (some-ne-none h (sym e))
-
-    alone_at : (m : ℕ) (x : Hands) → get_elem? (cold ∷ []) (m + 1) ≡ some x → ⊥
-    alone_at m x b = let near = in_list (cold ∷ []) (m + 1) x b in omega arith
-
-    first_count : (m : ℕ) (h : Hands) → get_elem? (cold ∷ []) m ≡ some h → h.count ≤ 0
-    first_count zero h e = subst (λ (g : Hands). g.count ≤ 0) (some-injective cold h e) (le_refl 0)
-    first_count (suc m) h e = absurd (some-ne-none h (sym e))
-
-    alone_crank : (j : ℕ) (k : CrankView) → get_elem? (Pen pen_first ∷ []) j ≡ some (Crank k) → ⊥
-    alone_crank zero k e = no_crank (Pen pen_first) k tt (some-injective _ _ e)
-    alone_crank (suc j) k e = some-ne-none (Crank k) (sym e)
-
-    not_some : (n : ℕ) → None ≡ Some n → ⊥
-    not_some n e = cc
-
-    alone_number : {P : Type 0} (i : ℕ) (u : View) (n : ℕ) → get_elem? (Pen pen_first ∷ []) i ≡ some u → number_in u ≡ Some n → P
-    alone_number zero u n e p = let none : number_in u ≡ None = ap number_in (sym (some-injective (Pen pen_first) u e)) in absurd (not_some n (sym none ∙ p))
-    alone_number (suc i) u n e p = absurd (some-ne-none u (sym e))
-
-    alone : (j : ℕ) (v : View) → get_elem? (Pen pen_first ∷ []) j ≡ some v → 0 < j → Fits (world_of first_words pen_first 0) v
-    alone zero v e far = absurd (omega arith)
-    alone (suc j) v e far = absurd (some-ne-none v (sym e))

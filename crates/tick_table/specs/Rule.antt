@@ -12,7 +12,7 @@ use Rattle.tick_views.specs.declared.views.CrankView.{CrankView}
 use Rattle.tick_views.specs.declared.views.PenView.{PenView}
 use Rattle.tick_views.specs.declared.views.View.{View}
 use Rattle.tick_views.specs.declared.views.View.TheVariants.{Pen, Pass, Crank, Note, Spent}
-use Rattle.tick_views.specs.Worlds.{World, AllBelow, FitsKept, Fits, IsMark, or_else}
+use Rattle.tick_views.specs.Worlds.{World, AllAtMost, FitsKept, Fits, IsMark, or_else}
 
 abbrev pub turn_of : PenView → ℕ → ℕ
 turn_of p n = 2 * n + cond p.winding 1 0
@@ -31,8 +31,14 @@ abbrev pub marks_of : List ℕ → ℕ → ℕ
 marks_of words m = slice_index words (mark_at m)
 
 abbrev pub world_of : List ℕ → PenView → ℕ → World
-world_of words p n = record { journal = p.journal; turn = turn_of p n; marks = marks_of words; counter = slice_index words 1;
-    bound = or_else p.loaded (slice_index words 1); made = p.made }
+world_of words p n = record {
+  journal = p.journal;
+  turn = turn_of p n;
+  marks = marks_of words;
+  counter = slice_index words 1;
+  bound = or_else p.loaded (slice_index words 1);
+  made = p.made;
+}
 
 -- the slot of tick m, which has the hands h: its mark is of a tick k from m on, and where k is m, its fields are those of h. n is the last tick
 pub record SlotIs (words : List ℕ) (n : ℕ) (marked : Bool) (m : ℕ) (h : Hands) : Type 0 where
@@ -63,7 +69,7 @@ pub record CounterStands (c : ℕ) (p : PenView) : Type 0 where
   pub small : c < 2 ^ 62
   pub ticks : (m : ℕ) (h : Hands) → get_elem? p.journal m ≡ some h → h.count ≤ or_else p.loaded c
   pub bound : or_else p.loaded c ≤ c
-  pub counted : AllBelow c p.counters
+  pub counted : AllAtMost c p.counters
   pub closed : p.winding ≡ false → p.loaded ≡ None
 
 pub record Stands (words : List ℕ) (p : PenView) (n : ℕ) : Type 0 where

@@ -15,7 +15,7 @@ use Rattle.tick_reads.specs.Scans.{Scan, has_fields, counter_of}
 use Rattle.clock_logs.specs.declared.noted.Kept.{Kept}
 use Rattle.tick_views.specs.declared.views.PenView.{PenView}
 use Rattle.tick_views.specs.declared.views.PassView.{PassView}
-use Rattle.tick_views.specs.Worlds.{AllBelow, FitsKept}
+use Rattle.tick_views.specs.Worlds.{AllAtMost, FitsKept}
 use Rattle.tick_views.specs.Views.{turn_started, mark_started, field_stored, mark_set, turn_closed, pen_counted, top_raised, on_pen, pen_of, on_crank, crank_of, crank_raised, scan_of, turn_loaded, counter_loaded, field_loaded, mark_loaded, call_begun, on_pass, pass_of}
 use Rattle.tick_table.specs.Sees.{Mine}
 use Rattle.tick_table.specs.Rule.{IsOnce, turn_now, world_of}
@@ -44,7 +44,7 @@ IsSoundAt n h = (journal : List Hands) × IsJournal journal × (slice_get journa
 -- what a load of the turn word with the value w tells a pass
 pub record LearnsTurn (v : PassView) (w : ℕ) : Type 0 where
   pub seen : 2 * v.seen ≤ w + 2
-  pub later : AllBelow w v.turns
+  pub later : AllAtMost w v.turns
   pub fits : w < 2 ^ 63
 
 -- where the mark stands, the fields are those of one tick's hands
@@ -68,7 +68,7 @@ abbrev pub LoadsTurn : Step (Unit {0}) → Mine → ℕ → Mine → Type 0
 LoadsTurn st m r m' = (m' ≡ (on_pass (turn_loaded r) m.0, m.1)) × LearnsTurn (pass_of m.0) r × LearnsAll (pass_of m.0).ask (scan_of (pass_of m.0)) r
 
 abbrev pub LoadsCounter : Step (Unit {0}) → Mine → ℕ → Mine → Type 0
-LoadsCounter st m r m' = (m' ≡ (on_pass (counter_loaded r) m.0, m.1)) × AllBelow r (pass_of m.0).counters × (r < 2 ^ 62)
+LoadsCounter st m r m' = (m' ≡ (on_pass (counter_loaded r) m.0, m.1)) × AllAtMost r (pass_of m.0).counters × (r < 2 ^ 62)
 
 -- what the pen learns of the counter: it is at least its top, and that where no crank is out
 pub record LearnsCounter (p : PenView) (c : ℕ) : Type 0 where
@@ -76,7 +76,7 @@ pub record LearnsCounter (p : PenView) (c : ℕ) : Type 0 where
   pub home : p.out ≡ false → c ≡ p.top
   pub reached : (m : ℕ) (h : Hands) → get_elem? p.journal m ≡ some h → h.count ≤ c
   pub small : c < 2 ^ 62
-  pub later : AllBelow c p.counters
+  pub later : AllAtMost c p.counters
 
 abbrev pub LoadsOwnCounter : Step (Unit {0}) → Mine → ℕ → Mine → Type 0
 LoadsOwnCounter st m r m' = (m' ≡ (on_pen (pen_counted r) m.0, m.1)) × LearnsCounter (pen_of m.0) r
@@ -101,12 +101,13 @@ pub record LegalLogs (p : PenView) : Type 0 where
   pub journal : IsJournal p.journal
   pub once : IsOnce p.kept
   pub given : (i : ℕ) (k : Kept) → get_elem? p.kept i ≡ some k → k.number < p.made
-  pub words : List ℕ
-  pub small : slice_index words 1 < 2 ^ 62
-  pub home : p.out ≡ false → slice_index words 1 ≡ p.top
+  -- the shared words as they stood then, of which word 1 is the counter
+  pub stood : List ℕ
+  pub small : slice_index stood 1 < 2 ^ 62
+  pub home : p.out ≡ false → slice_index stood 1 ≡ p.top
   pub closed : p.winding ≡ false → p.loaded ≡ None
-  pub reached : p.winding ≡ false → (m : ℕ) (h : Hands) → get_elem? p.journal m ≡ some h → h.count ≤ slice_index words 1
-  pub each : (i : ℕ) (k : Kept) → get_elem? p.kept i ≡ some k → FitsKept (world_of words p (length p.journal - 1)) k
+  pub reached : p.winding ≡ false → (m : ℕ) (h : Hands) → get_elem? p.journal m ≡ some h → h.count ≤ slice_index stood 1
+  pub each : (i : ℕ) (k : Kept) → get_elem? p.kept i ≡ some k → FitsKept (world_of stood p (length p.journal - 1)) k
 
 abbrev pub LoadsOwnTurn : Step (Unit {0}) → Mine → ℕ → Mine → Type 0
 LoadsOwnTurn st m r m' = (m' ≡ m) × (r ≡ turn_now (pen_of m.0)) × LegalLogs (pen_of m.0)

@@ -2,7 +2,7 @@
 ghost use Rattle.std.specs.Prelude.{◌≡◌, ◌+◌, ◌/◌, ◌%◌, ◌^◌, ◌<◌, true};
 ghost use Rattle.tick_views.specs.Views.{turn_loaded, call_begun, field_loaded, mark_loaded, counter_loaded, learned, scan_of};
 ghost use Rattle.tick_table.specs.Steps.{LearnsTurn, LearnsHands, LearnsLater, LearnsAll};
-ghost use Rattle.tick_views.specs.Worlds.{AllBelow};
+ghost use Rattle.tick_views.specs.Worlds.{AllAtMost};
 
 use crate::note::NoteSeat;
 use crate::rule::{Asking, LoadCounter, LoadField, LoadMark, LoadTurn, OpenCall, TakePass};
@@ -116,7 +116,7 @@ impl PassSeat {
         ensures table { self.new.table ≡ self.old.table }
         ensures view { self.new.view ≡ counter_loaded result self.old.view }
         ensures small { result < 2 ^ 62 }
-        ensures later { AllBelow result self.old.view.counters }
+        ensures later { AllAtMost result self.old.view.counters }
     {
         words.shared.load::<LoadCounter>(&mut self.seat, 1)
     }

@@ -17,7 +17,7 @@ use Rattle.clock_logs.specs.Legal.{Way, full, quick, past, way_of}
 use Rattle.tick_reads.specs.Looks.{full_mark}
 use Rattle.tick_reads.specs.Scans.{Scan}
 use Rattle.clock_logs.specs.Logs.{IsReadSince}
-use Rattle.tick_views.specs.Worlds.{Goes, AllBelow, opening_of, FitsEntry, FitsLog, FitsKept, FitsCall, FitsPass, Fits, top_tick, World, IsTimely, FitsCount, FitsAgain, FitsKind, MetWindup, LostSlot, counts_of}
+use Rattle.tick_views.specs.Worlds.{Goes, AllAtMost, opening_of, FitsEntry, FitsLog, FitsKept, FitsCall, FitsPass, Fits, top_tick, World, IsTimely, FitsCount, FitsAgain, FitsKind, MetWindup, LostSlot, counts_of}
 
 module _ {A : Type 0} where
   pub at_shorter : (l m : List A) (i : ℕ) (a : A) → i < length l → get_elem? (l ++ m) i ≡ some a → get_elem? l i ≡ some a
@@ -31,7 +31,7 @@ at_end [] a b (suc j) e = absurd (some-ne-none b (sym e))
 at_end (x ∷ xs) a b zero e = inl e
 at_end (x ∷ xs) a b (suc j) e = ⊎_elim (λ h. inl h) (λ (h : (j ≡ length xs) × (a ≡ b)). let same = h.0 in inr (omega arith, h.1)) (at_end xs a b j e)
 
-pub below_more : (t t' : ℕ) (xs : List ℕ) → t ≤ t' → AllBelow t xs → AllBelow t' xs
+pub below_more : (t t' : ℕ) (xs : List ℕ) → t ≤ t' → AllAtMost t xs → AllAtMost t' xs
 below_more t t' xs up all i x at = le_trans (all i x at) up
 
 half-up : (a b : ℕ) → a ≤ b → top_tick a ≤ top_tick b
@@ -70,11 +70,26 @@ module _ (w w' : World) (g : Goes w w') where
       (λ (x : (m : ℕ) × IsReadSince past m o × LostSlot w m a b). inr (x.0, x.1, grow_overtaken x.0 a b x.2)) f
 
   pub grow_entry : (o : ℕ) (e : Entry) → FitsEntry w o e → FitsEntry w' o e
-  grow_entry o (Read r) f = record { ask = f.ask; hands = f.hands; counter = f.counter; at = g.on r.tick f.hands f.at; is = f.is;
-      count = grow_count (way_of f.ask.kind) f.ask.given r.tick f.hands f.counter (in_list w.journal r.tick f.hands f.at) f.count; tick = f.tick }
+  grow_entry o (Read r) f = record {
+    ask = f.ask;
+    hands = f.hands;
+    counter = f.counter;
+    at = g.on r.tick f.hands f.at;
+    is = f.is;
+    count = grow_count (way_of f.ask.kind) f.ask.given r.tick f.hands f.counter (in_list w.journal r.tick f.hands f.at) f.count;
+    tick = f.tick;
+  }
   grow_entry o (Again k a b) f = grow_again (way_of k) o a b f
-  grow_entry o (TooOld c a) f = record { tick = f.tick; hands = f.hands; at = g.on f.tick f.hands f.at; is = f.is; not_after = f.not_after;
-      later = f.later; some_tick = f.some_tick; reached = let r = f.reached in let l = g.longer in omega arith }
+  grow_entry o (TooOld c a) f = record {
+    tick = f.tick;
+    hands = f.hands;
+    at = g.on f.tick f.hands f.at;
+    is = f.is;
+    not_after = f.not_after;
+    later = f.later;
+    some_tick = f.some_tick;
+    reached = let r = f.reached in let l = g.longer in omega arith;
+  }
   grow_entry o (Ahead c a) f = f
 
   pub grow_log : (log : List Noted) → FitsLog w log → FitsLog w' log
@@ -87,8 +102,11 @@ module _ (w w' : World) (g : Goes w w') where
   }
 
   pub grow_one_kept : (k : Kept) → FitsKept w k → FitsKept w' k
-  grow_one_kept k f = record { seen = le_trans f.seen g.longer; counters = below_more w.counter w'.counter k.counters g.counter f.counters;
-      log = grow_log k.entries f.log }
+  grow_one_kept k f = record {
+    seen = le_trans f.seen g.longer;
+    counters = below_more w.counter w'.counter k.counters g.counter f.counters;
+    log = grow_log k.entries f.log;
+  }
 
   grow_kind : (k : Way) (ask : Ask) (s : Scan) → s.tick ≤ s.first / 2 → s.first / 2 < length w.journal → FitsKind w k ask s → FitsKind w' k ask s
   grow_kind full ask s near in-J f = f
@@ -103,16 +121,16 @@ module _ (w w' : World) (g : Goes w w') where
       → FitsCall w' known log y ask s
   grow_call known log y ask s in-journal f = let tick = f.tick in let near = f.near in let in-J : s.first / 2 < length w.journal = omega arith in
       let in-J' : s.tick < length w.journal = omega arith in record {
-    begun = f.begun;
-    undecided = f.undecided;
-    later = f.later;
-    tick = f.tick;
-    near = f.near;
-    reached = le_trans f.reached g.turn;
-    kind = λ good. grow_kind y ask s near in-J (f.kind good);
-    fields = λ good same h at. f.fields good (g.marks s.tick in-J' same) h (g.back s.tick h in-J' at);
-    counters = λ i c at. let t = f.counters i c at in (le_trans t.0 g.counter, t.1, (λ h here. t.2 h (g.back (s.first / 2) h in-J here)), t.3);
-  }
+        begun = f.begun;
+        undecided = f.undecided;
+        later = f.later;
+        tick = f.tick;
+        near = f.near;
+        reached = le_trans f.reached g.turn;
+        kind = λ good. grow_kind y ask s near in-J (f.kind good);
+        fields = λ good same h at. f.fields good (g.marks s.tick in-J' same) h (g.back s.tick h in-J' at);
+        counters = λ i c at. let t = f.counters i c at in (le_trans t.0 g.counter, t.1, (λ h here. t.2 h (g.back (s.first / 2) h in-J here)), t.3);
+      }
 
   pub grow_pass : (v : PassView) → FitsPass w v → FitsPass w' v
   grow_pass v f = let number = f.number in let made = g.made in record {

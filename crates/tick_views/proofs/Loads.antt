@@ -28,17 +28,17 @@ use Rattle.tick_reads.specs.Ways.{needs_even, count_by}
 use Rattle.tick_reads.specs.Looks.{full_mark}
 use Rattle.tick_reads.specs.Scans.{Scan, fresh, is_even, counter_of, read_by, has_fields, ends, at_turn, at_mark, turn_ends, mark_ends, opens_at, opened, turn_again, turned, goes_down, finds_top, finds_line, looks_at, finds_mark, walks, mark_by, counts_back, counter_back, takes_counter, after, run}
 use Rattle.clock_logs.specs.Logs.{IsReadSince}
-use Rattle.tick_views.specs.Worlds.{World, IsMark, IsTimely, FitsCount, MetWindup, LostSlot, FitsAgain, FitsWalk, FitsKind, FitsMark, top_tick, AllBelow, NeverFall, opening_of, StartsWith, FitsEntry, FitsLog, FitsCall, FitsPass, count_if, counts_in, counts_of}
+use Rattle.tick_views.specs.Worlds.{World, IsMark, IsTimely, FitsCount, MetWindup, LostSlot, FitsAgain, FitsWalk, FitsKind, FitsMark, top_tick, AllAtMost, NeverFall, opening_of, StartsWith, FitsEntry, FitsLog, FitsCall, FitsPass, count_if, counts_in, counts_of}
 use Rattle.tick_views.specs.Views.{settled, turn_loaded, counter_loaded, field_loaded, mark_loaded, call_begun, scan_of, undecided, gained, noted, mark_load}
 
-rises-snoc : (xs : List ℕ) (w : ℕ) → NeverFall xs → AllBelow w xs → NeverFall (xs ++ w ∷ [])
+rises-snoc : (xs : List ℕ) (w : ℕ) → NeverFall xs → AllAtMost w xs → NeverFall (xs ++ w ∷ [])
 rises-snoc [] w r b = ((λ i x e. absurd (some-ne-none x (sym e))), tt)
 rises-snoc (x ∷ xs) w r b = (
   (λ i y e. ⊎_elim (λ (at : get_elem? xs i ≡ some y). r.0 i y at) (λ (same : w ≡ y). subst (λ k. x ≤ k) same (b 0 x refl)) (at_snoc xs w y i e)),
   rises-snoc xs w r.1 (λ i y e. b (suc i) y e),
 )
 
-below-snoc : (t : ℕ) (xs : List ℕ) (w : ℕ) → AllBelow t xs → w ≤ t → AllBelow t (xs ++ w ∷ [])
+below-snoc : (t : ℕ) (xs : List ℕ) (w : ℕ) → AllAtMost t xs → w ≤ t → AllAtMost t (xs ++ w ∷ [])
 below-snoc t xs w b up i y e = ⊎_elim (λ (at : get_elem? xs i ≡ some y). b i y at) (λ (same : w ≡ y). subst (λ k. k ≤ t) same up) (at_snoc xs w y i e)
 
 both_true : (a b : Bool) → (a && b) ≡ true → (a ≡ true) × (b ≡ true)
@@ -87,7 +87,7 @@ module _ (w : World) (back : (m : ℕ) (h : Hands) → get_elem? w.journal m ≡
   -- what the counts of a new entry owe
   NewCounts : List ℕ → List ℕ → Type 0
   NewCounts xs [] = Unit {0}
-  NewCounts xs (c ∷ []) = AllBelow c xs × (c ≤ w.counter)
+  NewCounts xs (c ∷ []) = AllAtMost c xs × (c ≤ w.counter)
   NewCounts xs (c ∷ d ∷ ds) = ⊥
 
   add_rises : (xs ys : List ℕ) → NeverFall xs → NewCounts xs ys → NeverFall (xs ++ ys)
@@ -96,13 +96,13 @@ module _ (w : World) (back : (m : ℕ) (h : Hands) → get_elem? w.journal m ≡
   add_rises xs (c ∷ []) r n = rises-snoc xs c r n.0
   add_rises xs (c ∷ d ∷ ds) r n = absurd n
 
-  add_below : (xs ys : List ℕ) → AllBelow w.counter xs → NewCounts xs ys → AllBelow w.counter (xs ++ ys)
+  add_below : (xs ys : List ℕ) → AllAtMost w.counter xs → NewCounts xs ys → AllAtMost w.counter (xs ++ ys)
   unfolding NewCounts
-  add_below xs [] r n = subst (AllBelow w.counter) (sym (append_none xs)) r
+  add_below xs [] r n = subst (AllAtMost w.counter) (sym (append_none xs)) r
   add_below xs (c ∷ []) r n = below-snoc w.counter xs c r n.1
   add_below xs (c ∷ d ∷ ds) r n = absurd n
 
-  new_read : (k : Kind) (given c : ℕ) (h : Hands) (xs : List ℕ) → (needs_even (way_of k) ≡ true → AllBelow c xs × (c ≤ w.counter))
+  new_read : (k : Kind) (given c : ℕ) (h : Hands) (xs : List ℕ) → (needs_even (way_of k) ≡ true → AllAtMost c xs × (c ≤ w.counter))
       → NewCounts xs (count_if (needs_even (way_of k)) (count_by k given h c))
   unfolding NewCounts
   new_read kind.Abs given c h xs f = f refl
@@ -113,7 +113,7 @@ module _ (w : World) (back : (m : ℕ) (h : Hands) → get_elem? w.journal m ≡
   new_read kind.Back given c h xs f = tt
   new_read kind.Utc given c h xs f = f refl
 
-  one_new : (xs : List ℕ) (c : ℕ) → AllBelow c xs → c ≤ w.counter → NewCounts xs (c ∷ [])
+  one_new : (xs : List ℕ) (c : ℕ) → AllAtMost c xs → c ≤ w.counter → NewCounts xs (c ∷ [])
   unfolding NewCounts
   one_new xs c a b = (a, b)
 
@@ -124,7 +124,7 @@ module _ (w : World) (back : (m : ℕ) (h : Hands) → get_elem? w.journal m ≡
   -- what a new entry owes
   record IsNext (log : List Noted) (o : ℕ) (e : Entry) : Type 0 where
     fits : FitsEntry w o e
-    later : AllBelow o (map opening_of log)
+    later : AllAtMost o (map opening_of log)
     reached : o ≤ w.turn
     counts : NewCounts (counts_of log) (counts_in e)
 
@@ -133,9 +133,9 @@ module _ (w : World) (back : (m : ℕ) (h : Hands) → get_elem? w.journal m ≡
     each = λ i x at. ⊎_elim (λ (was : get_elem? log i ≡ some x). f.each i x was)
         (λ (same : noted e o ≡ x). subst (λ (y : Noted). FitsEntry w y.opening y.entry) same n.fits) (at_snoc log (noted e o) x i at);
     rises = subst NeverFall (sym openings) (rises-snoc (map opening_of log) o f.rises n.later);
-    below = subst (AllBelow w.turn) (sym openings) (below-snoc w.turn (map opening_of log) o f.below n.reached);
+    below = subst (AllAtMost w.turn) (sym openings) (below-snoc w.turn (map opening_of log) o f.below n.reached);
     counts_rise = subst NeverFall (sym counts) (add_rises (counts_of log) (counts_in e) f.counts_rise n.counts);
-    counts_below = subst (AllBelow w.counter) (sym counts) (add_below (counts_of log) (counts_in e) f.counts_below n.counts);
+    counts_below = subst (AllAtMost w.counter) (sym counts) (add_below (counts_of log) (counts_in e) f.counts_below n.counts);
   }
 
   log_after : (log : List Noted) (a : Option Entry) (o : ℕ) → FitsLog w log → ((e : Entry) → a ≡ Some e → IsNext log o e) → FitsLog w (gained log a o)
@@ -165,17 +165,37 @@ module _ (w : World) (back : (m : ℕ) (h : Hands) → get_elem? w.journal m ≡
   goes_open seen log y ask s f = record { stays_open = λ _. f; gains = λ e same. absurd (none_some e (sym f.undecided ∙ same)) }
 
   goes_end : (seen : ℕ) (log : List Noted) (y : Way) (ask : Ask) (s : Scan) (e : Entry) → IsNext log s.first e → Outcome seen log y ask (ends (Some e) s)
-  goes_end seen log y ask s e n = record { stays_open = λ none-yet. absurd (some_none e none-yet);
-      gains = λ d same. subst (IsNext log s.first) (some_same e d same) n }
+  goes_end seen log y ask s e n = record {
+    stays_open = λ none-yet. absurd (some_none e none-yet);
+    gains = λ d same. subst (IsNext log s.first) (some_same e d same) n;
+  }
 
   goes_astray : (seen : ℕ) (log : List Noted) (y : Way) (ask : Ask) (s : Scan) → FitsCall w seen log y ask s → Outcome seen log y ask (ends None s)
-  goes_astray seen log y ask s f = goes_open seen log y ask (ends None s) record { begun = refl; undecided = refl; later = f.later; tick = f.tick;
-      near = f.near; reached = f.reached; kind = λ e. absurd (true≢false (sym e)); fields = λ e. absurd (true≢false (sym e)); counters = f.counters }
+  goes_astray seen log y ask s f = goes_open seen log y ask (ends None s) record {
+    begun = refl;
+    undecided = refl;
+    later = f.later;
+    tick = f.tick;
+    near = f.near;
+    reached = f.reached;
+    kind = λ e. absurd (true≢false (sym e));
+    fields = λ e. absurd (true≢false (sym e));
+    counters = f.counters;
+  }
 
   seen_more : (seen seen' : ℕ) (log : List Noted) (y : Way) (ask : Ask) (s : Scan) → seen ≤ seen' → FitsCall w seen log y ask s → FitsCall w seen' log y ask s
   seen_more seen seen' log y ask s up f = let tick = f.tick in
-      record { begun = f.begun; undecided = f.undecided; later = f.later; tick = omega arith; near = f.near; reached = f.reached; kind = f.kind;
-      fields = f.fields; counters = f.counters }
+      record {
+        begun = f.begun;
+        undecided = f.undecided;
+        later = f.later;
+        tick = omega arith;
+        near = f.near;
+        reached = f.reached;
+        kind = f.kind;
+        fields = f.fields;
+        counters = f.counters;
+      }
 
   -- after a load by which the call is as far as s
   record Loaded (v : PassView) (seen : ℕ) (turns counters : List ℕ) (marks : List MarkLoad) (l : Load) (s : Scan) : Type 0 where
@@ -183,10 +203,10 @@ module _ (w : World) (back : (m : ℕ) (h : Hands) → get_elem? w.journal m ≡
     log : FitsLog w v.entries
     in_journal : seen ≤ length w.journal
     rises : NeverFall turns
-    below : AllBelow w.turn turns
+    below : AllAtMost w.turn turns
     known : (i t : ℕ) → get_elem? turns i ≡ some t → t / 2 < seen
     counters_rise : NeverFall counters
-    counters_below : AllBelow w.counter counters
+    counters_below : AllAtMost w.counter counters
     marked : (i : ℕ) (k : MarkLoad) → get_elem? marks i ≡ some k → FitsMark w k
     is : run v.ask fresh (v.loads ++ l ∷ []) ≡ s
     outcome : Outcome seen v.entries (way_of v.ask.kind) v.ask s
@@ -238,11 +258,13 @@ module _ (w : World) (back : (m : ℕ) (h : Hands) → get_elem? w.journal m ≡
     }
 
     timely : (s : Scan) (c : ℕ) → AtLast s → c ≤ w.counter → IsTimely w (s.first / 2) c
-    timely s c a le = let last = a.last in record { next = λ g at. let near = in_list w.journal (s.first / 2 + 1) g at in absurd (omega arith);
-        last = λ _. subst (λ z. c ≤ z) (sym a.bound) le }
+    timely s c a le = let last = a.last in record {
+      next = λ g at. let near = in_list w.journal (s.first / 2 + 1) g at in absurd (omega arith);
+      last = λ _. subst (λ z. c ≤ z) (sym a.bound) le;
+    }
 
     first_counter : (seen : ℕ) (log : List Noted) (y : Way) (ask : Ask) (s : Scan) → FitsCall w seen log y ask s → (length s.counters == 1) ≡ true
-        → (counter_of s ≤ w.counter) × AllBelow (counter_of s) (counts_of log)
+        → (counter_of s ≤ w.counter) × AllAtMost (counter_of s) (counts_of log)
         × ((h : Hands) → get_elem? w.journal (s.first / 2) ≡ some h → h.count ≤ counter_of s) × (y ≡ past → ask.given ≤ counter_of s)
     first_counter seen log y ask s f one = f.counters 0 (counter_of s) (one_number s.counters (eqb-true (length s.counters) 1 one))
 
@@ -250,13 +272,19 @@ module _ (w : World) (back : (m : ℕ) (h : Hands) → get_elem? w.journal m ≡
     pub full_read : (ask : Ask) (seen : ℕ) (log : List Noted) (s : Scan) → seen ≤ length w.journal → FitsCall w seen log full ask s
         → (has_fields s && (length s.counters == 1)) ≡ true → w.turn ≡ s.first
         → (h : Hands) × (s.fields ≡ pack h) × (get_elem? w.journal s.tick ≡ some h) × (h.count ≤ counter_of s) × IsTimely w s.tick (counter_of s)
-            × AllBelow (counter_of s) (counts_of log) × (counter_of s ≤ w.counter)
+        × AllAtMost (counter_of s) (counts_of log) × (counter_of s ≤ w.counter)
     full_read ask seen log s in-J f all same = let b = both_true (has_fields s) (length s.counters == 1) all in
         let good = both_true s.good (length s.fields == 15) b.0 in let k = f.kind good.0 in
         let a = at_last s same k.1 in let h = whole_hands seen log full ask s in-J f b.0 (subst (λ t. w.marks t ≡ full_mark t) (sym k.0) a.mark) in
-        let c = first_counter seen log full ask s f b.1 in
-        (h.0, h.1, h.2, c.2 h.0 (subst (λ t. get_elem? w.journal t ≡ some h.0) k.0 h.2),
-            subst (λ t. IsTimely w t (counter_of s)) (sym k.0) (timely s (counter_of s) a c.0), c.1, c.0)
+        let c = first_counter seen log full ask s f b.1 in (
+          h.0,
+          h.1,
+          h.2,
+          c.2 h.0 (subst (λ t. get_elem? w.journal t ≡ some h.0) k.0 h.2),
+          subst (λ t. IsTimely w t (counter_of s)) (sym k.0) (timely s (counter_of s) a c.0),
+          c.1,
+          c.0,
+        )
 
     crossed : (s : Scan) → s.first ≤ w.turn → s.first % 2 ≡ 0 → (w.turn == s.first) ≡ false → MetWindup w s.first s.first w.turn
     crossed s reached even is = let less : s.first < w.turn = ⊎_elim
@@ -275,16 +303,27 @@ module _ (w : World) (back : (m : ℕ) (h : Hands) → get_elem? w.journal m ≡
         entry true same = let h = full_read ask seen log s in-J f is (eqb-true w.turn s.first same) in
             let u : unpack s.fields ≡ h.0 = reads s.tick h.0 s.fields h.1 h.2 in
             let k = f.kind (both_true s.good (length s.fields == 15) (both_true (has_fields s) (length s.counters == 1) is).0).0 in record {
-          fits = record { ask = ask; hands = unpack s.fields; counter = counter_of s; at = h.2 ∙ ap some (sym u); is = refl;
-              count = subst (λ z. FitsCount w z ask.given s.tick (unpack s.fields) (counter_of s)) (sym e)
-              (subst (λ (g : Hands). g.count ≤ counter_of s) (sym u) h.3, h.4); tick = subst (λ z. IsReadSince z s.tick s.first) (sym e) k.0 };
-          later = f.later;
-          reached = f.reached;
-          counts = new_read ask.kind ask.given (counter_of s) (unpack s.fields) (counts_of log) (λ _. (h.5, h.6));
-        }
+              fits = record {
+                ask = ask;
+                hands = unpack s.fields;
+                counter = counter_of s;
+                at = h.2 ∙ ap some (sym u);
+                is = refl;
+                count = subst (λ z. FitsCount w z ask.given s.tick (unpack s.fields) (counter_of s)) (sym e)
+                    (subst (λ (g : Hands). g.count ≤ counter_of s) (sym u) h.3, h.4);
+                tick = subst (λ z. IsReadSince z s.tick s.first) (sym e) k.0;
+              };
+              later = f.later;
+              reached = f.reached;
+              counts = new_read ask.kind ask.given (counter_of s) (unpack s.fields) (counts_of log) (λ _. (h.5, h.6));
+            }
         entry false same = let k = f.kind (both_true s.good (length s.fields == 15) (both_true (has_fields s) (length s.counters == 1) is).0).0 in
-            record { fits = subst (λ z. FitsAgain w z s.first s.first w.turn) (sym e) (crossed s f.reached k.1 same); later = f.later;
-            reached = f.reached; counts = no_read (counts_of log) }
+            record {
+              fits = subst (λ z. FitsAgain w z s.first s.first w.turn) (sym e) (crossed s f.reached k.1 same);
+              later = f.later;
+              reached = f.reached;
+              counts = no_read (counts_of log);
+            }
 
     turn_back : (ask : Ask) (e : way_of ask.kind ≡ past) (seen : ℕ) (log : List Noted) (s : Scan) (b c : Bool) → seen ≤ length w.journal
         → FitsCall w seen log past ask s → (s.good && s.line && (length s.counters == 1)) ≡ b → (w.turn == s.first) ≡ c
@@ -297,16 +336,17 @@ module _ (w : World) (back : (m : ℕ) (h : Hands) → get_elem? w.journal m ≡
         entry true same = let b = both_true (s.good && s.line) (length s.counters == 1) is in let g = both_true s.good s.line b.0 in
             let k = f.kind g.0 in let top = k.top g.1 in let a = at_last s (eqb-true w.turn s.first same) top.1 in
             let tick = f.tick in let near = f.near in let h = there w.journal s.tick (omega arith) in let known = top.2 h.0 h.1 in
-                let u : unpack s.fields ≡ h.0 = reads s.tick h.0 s.fields known.0 h.1 in let c = first_counter seen log past ask s f b.1 in record {
+            let u : unpack s.fields ≡ h.0 = reads s.tick h.0 s.fields known.0 h.1 in let c = first_counter seen log past ask s f b.1 in record {
               fits = record {
                 ask = ask;
                 hands = unpack s.fields;
                 counter = counter_of s;
                 at = h.1 ∙ ap some (sym u);
                 is = refl;
-                count = subst (λ z. FitsCount w z ask.given s.tick (unpack s.fields) (counter_of s)) (sym e)
-                    (inr (subst (λ (x : Hands). x.count < ask.given) (sym u) known.1),
-                    subst (λ t. IsTimely w t ask.given) (sym top.0) (timely s ask.given a (le_trans (c.3 refl) c.0)));
+                count = subst (λ z. FitsCount w z ask.given s.tick (unpack s.fields) (counter_of s)) (sym e) (
+                  inr (subst (λ (x : Hands). x.count < ask.given) (sym u) known.1),
+                  subst (λ t. IsTimely w t ask.given) (sym top.0) (timely s ask.given a (le_trans (c.3 refl) c.0)),
+                );
                 tick = subst (λ z. IsReadSince z s.tick s.first) (sym e) k.range;
               };
               later = f.later;
@@ -315,8 +355,13 @@ module _ (w : World) (back : (m : ℕ) (h : Hands) → get_elem? w.journal m ≡
                   (λ needs. absurd (true≢false (sym needs ∙ ap needs_even e)));
             }
         entry false same = let b = both_true (s.good && s.line) (length s.counters == 1) is in let g = both_true s.good s.line b.0 in
-            let top = (f.kind g.0).top g.1 in record { fits = subst (λ z. FitsAgain w z s.first s.first w.turn) (sym e)
-            (inl (crossed s f.reached top.1 same)); later = f.later; reached = f.reached; counts = no_read (counts_of log) }
+            let top = (f.kind g.0).top g.1 in record {
+              fits = subst (λ z. FitsAgain w z s.first s.first w.turn) (sym e)
+                  (inl (crossed s f.reached top.1 same));
+              later = f.later;
+              reached = f.reached;
+              counts = no_read (counts_of log);
+            }
 
     turn_by : (y : Way) (ask : Ask) (e : way_of ask.kind ≡ y) (seen : ℕ) (log : List Noted) (s : Scan) → seen ≤ length w.journal
         → FitsCall w seen log y ask s → Outcome seen log y ask (turn_again y ask s w.turn)
@@ -327,10 +372,10 @@ module _ (w : World) (back : (m : ℕ) (h : Hands) → get_elem? w.journal m ≡
     -- the counter
     counted : (seen : ℕ) (log : List Noted) (y : Way) (ask : Ask) (s : Scan) → FitsLog w log → FitsCall w seen log y ask s
         → (y ≡ past → ask.given ≤ w.counter) → (i c : ℕ) → get_elem? (s.counters ++ w.counter ∷ []) i ≡ some c
-        → (c ≤ w.counter) × AllBelow c (counts_of log) × ((h : Hands) → get_elem? w.journal (s.first / 2) ≡ some h → h.count ≤ c) × (y ≡ past → ask.given ≤ c)
+        → (c ≤ w.counter) × AllAtMost c (counts_of log) × ((h : Hands) → get_elem? w.journal (s.first / 2) ≡ some h → h.count ≤ c) × (y ≡ past → ask.given ≤ c)
     counted seen log y ask s l f beyond i c at = ⊎_elim (λ (was : get_elem? s.counters i ≡ some c). f.counters i c was)
-        (λ (new : w.counter ≡ c). subst (λ x. (x ≤ w.counter) × AllBelow x (counts_of log)
-            × ((h : Hands) → get_elem? w.journal (s.first / 2) ≡ some h → h.count ≤ x) × (y ≡ past → ask.given ≤ x)) new
+        (λ (new : w.counter ≡ c). subst (λ x. (x ≤ w.counter) × AllAtMost x (counts_of log)
+        × ((h : Hands) → get_elem? w.journal (s.first / 2) ≡ some h → h.count ≤ x) × (y ≡ past → ask.given ≤ x)) new
         (le_refl w.counter, l.counts_below, sane.reached (s.first / 2), beyond)) (at_snoc s.counters w.counter c i at)
 
     counter_down : (ask : Ask) (e : way_of ask.kind ≡ past) (seen : ℕ) (log : List Noted) (s : Scan) (a b : Bool) → FitsLog w log
@@ -340,8 +385,12 @@ module _ (w : World) (back : (m : ℕ) (h : Hands) → get_elem? w.journal m ≡
     counter_down ask e seen log s true b l f is less = subst (λ x. Outcome seen log past ask (counts_back x ask s w.counter)) (sym less) (next b less)
       where
         next : (b : Bool) → nat_lt w.counter ask.given ≡ b → Outcome seen log past ask (counts_back b ask s w.counter)
-        next true less = goes_end seen log past ask s (Ahead ask.given w.counter) record { fits = ltb-true w.counter ask.given less; later = f.later;
-            reached = f.reached; counts = one_new (counts_of log) w.counter l.counts_below (le_refl w.counter) }
+        next true less = goes_end seen log past ask s (Ahead ask.given w.counter) record {
+          fits = ltb-true w.counter ask.given less;
+          later = f.later;
+          reached = f.reached;
+          counts = one_new (counts_of log) w.counter l.counts_below (le_refl w.counter);
+        }
         next false less = goes_open seen log past ask (record s { counters = s.counters ++ w.counter ∷ [] }) record {
           begun = f.begun;
           undecided = f.undecided;
@@ -384,25 +433,41 @@ module _ (w : World) (back : (m : ℕ) (h : Hands) → get_elem? w.journal m ≡
         odd (suc (suc n)) h e = absurd (omega arith)
 
         open_call : (y : Way) → (FitsKind w y ask (opens_at w.turn)) → Outcome seen log y ask (opens_at w.turn)
-        open_call y fits = goes_open seen log y ask (opens_at w.turn) record { begun = refl; undecided = refl; later = f.below; tick = near;
-            near = le_refl (w.turn / 2); reached = le_refl w.turn; kind = λ _. fits; fields = λ _ _ h at i y e. absurd (some-ne-none y (sym e));
-            counters = λ i c e. absurd (some-ne-none c (sym e)) }
+        open_call y fits = goes_open seen log y ask (opens_at w.turn) record {
+          begun = refl;
+          undecided = refl;
+          later = f.below;
+          tick = near;
+          near = le_refl (w.turn / 2);
+          reached = le_refl w.turn;
+          kind = λ _. fits;
+          fields = λ _ _ h at i y e. absurd (some-ne-none y (sym e));
+          counters = λ i c e. absurd (some-ne-none c (sym e));
+        }
 
         by_way : (y : Way) (b : Bool) → way_of ask.kind ≡ y → is_even w.turn ≡ b → Outcome seen log y ask (opened (needs_even y && not b) ask w.turn)
         by_way full false e is = goes_end seen log full ask (opens_at w.turn)
-            (Again ask.kind w.turn w.turn) record { fits = subst (λ z. FitsAgain w z w.turn w.turn w.turn) (sym e)
-            (refl, le_refl w.turn, inl (refl, odd (w.turn % 2) (omega arith) is)); later = f.below; reached = le_refl w.turn; counts = no_read (counts_of log) }
+            (Again ask.kind w.turn w.turn) record {
+              fits = subst (λ z. FitsAgain w z w.turn w.turn w.turn) (sym e)
+                  (refl, le_refl w.turn, inl (refl, odd (w.turn % 2) (omega arith) is));
+              later = f.below;
+              reached = le_refl w.turn;
+              counts = no_read (counts_of log);
+            }
         by_way full true e is = open_call full (refl, eqb-true (w.turn % 2) 0 is)
         by_way quick b e is = open_call quick refl
-        by_way past b e is = open_call past record { range = (le_refl (w.turn / 2), omega arith); above = λ less. absurd (omega arith);
-            top = λ e. absurd (true≢false (sym e)) }
+        by_way past b e is = open_call past record {
+          range = (le_refl (w.turn / 2), omega arith);
+          above = λ less. absurd (omega arith);
+          top = λ e. absurd (true≢false (sym e));
+        }
 
     pub turn_fits : (v : PassView) → FitsPass w v → v.calling ≡ true → FitsPass w (turn_loaded w.turn v)
     turn_fits v f calling = let call = f.call calling in let s : Scan = scan_of v in let t : ℕ = w.turn in let seen = f.seen in let last = sane.last in
         let step_is : after v.ask s (Turn t) ≡ turn_again (way_of v.ask.kind) v.ask s t = ap (λ b. turned b v.ask s t) call.begun in
         let more : v.seen ≤ t / 2 + 1 = omega arith in
         let k = turn_by (way_of v.ask.kind) v.ask refl (t / 2 + 1) v.entries s (omega arith)
-            (seen_more v.seen (t / 2 + 1) v.entries (way_of v.ask.kind) v.ask s more call) in
+        (seen_more v.seen (t / 2 + 1) v.entries (way_of v.ask.kind) v.ask s more call) in
         fits_settled v (t / 2 + 1) (v.turns ++ t ∷ []) v.counters v.marks (Turn t) (after v.ask s (Turn t)) record {
           number = f.number;
           log = f.log;
@@ -420,7 +485,7 @@ module _ (w : World) (back : (m : ℕ) (h : Hands) → get_elem? w.journal m ≡
     pub begun_fits : (v : PassView) (ask : Ask) → FitsPass w v → FitsPass w (turn_loaded w.turn (call_begun ask v))
     begun_fits v ask f = let t : ℕ = w.turn in let seen = f.seen in let last = sane.last in let more : v.seen ≤ t / 2 + 1 = omega arith in
         fits_settled (call_begun ask v) (t / 2 + 1) (v.turns ++ t ∷ []) v.counters v.marks (Turn t)
-            (opened (needs_even (way_of ask.kind) && not (is_even t)) ask t) record {
+        (opened (needs_even (way_of ask.kind) && not (is_even t)) ask t) record {
           number = f.number;
           log = f.log;
           marked = f.marks;
@@ -509,7 +574,7 @@ module _ (w : World) (back : (m : ℕ) (h : Hands) → get_elem? w.journal m ≡
       -- Fast and Diff
       light : (ask : Ask) (e : way_of ask.kind ≡ quick) (a b : Bool) → FitsCall w seen log quick ask s → (s.good ≡ true → s.tick ≡ s.first / 2)
           → (has_fields s && (s.tick == s.tick)) ≡ a → (w.marks s.tick == full_mark s.tick) ≡ b
-              → Outcome seen log quick ask (ends (mark_ends a ask s (w.marks s.tick)) s)
+          → Outcome seen log quick ask (ends (mark_ends a ask s (w.marks s.tick)) s)
       light ask e false b f here is same = goes_astray seen log quick ask s f
       light ask e true b f here is same = goes_end seen log quick ask s (at_mark (w.marks s.tick == full_mark s.tick) ask s (w.marks s.tick))
           (subst (λ c. IsNext log s.first (at_mark c ask s (w.marks s.tick))) (sym same) (entry b same))
@@ -518,13 +583,20 @@ module _ (w : World) (back : (m : ℕ) (h : Hands) → get_elem? w.journal m ≡
           entry true same = let whole = (both_true (has_fields s) _ is).0 in
               let h = whole_hands seen log quick ask s in-J f whole (eqb-true _ _ same) in
               let u : unpack s.fields ≡ h.0 = reads s.tick h.0 s.fields h.1 h.2 in record {
-            fits = record { ask = ask; hands = unpack s.fields; counter = counter_of s; at = h.2 ∙ ap some (sym u); is = refl;
-                count = subst (λ z. FitsCount w z ask.given s.tick (unpack s.fields) (counter_of s)) (sym e) tt;
-                tick = subst (λ z. IsReadSince z s.tick s.first) (sym e) (here (both_true s.good _ whole).0) };
-            later = f.later;
-            reached = f.reached;
-            counts = new_read ask.kind ask.given (counter_of s) (unpack s.fields) (counts_of log) (λ needs. absurd (true≢false (sym needs ∙ ap needs_even e)));
-          }
+                fits = record {
+                  ask = ask;
+                  hands = unpack s.fields;
+                  counter = counter_of s;
+                  at = h.2 ∙ ap some (sym u);
+                  is = refl;
+                  count = subst (λ z. FitsCount w z ask.given s.tick (unpack s.fields) (counter_of s)) (sym e) tt;
+                  tick = subst (λ z. IsReadSince z s.tick s.first) (sym e) (here (both_true s.good _ whole).0);
+                };
+                later = f.later;
+                reached = f.reached;
+                counts = new_read ask.kind ask.given (counter_of s) (unpack s.fields) (counts_of log)
+                    (λ needs. absurd (true≢false (sym needs ∙ ap needs_even e)));
+              }
           entry false same = let tick = f.tick in let near = f.near in let whole = (both_true (has_fields s) _ is).0 in record {
             fits = subst (λ z. FitsAgain w z s.first (full_mark s.tick) (w.marks s.tick)) (sym e)
                 (subst (λ m. LostSlot w m (full_mark s.tick) (w.marks s.tick)) (here (both_true s.good _ whole).0)
@@ -549,10 +621,17 @@ module _ (w : World) (back : (m : ℕ) (h : Hands) → get_elem? w.journal m ≡
         back_read : (h : Hands) → s.fields ≡ pack h → get_elem? w.journal s.tick ≡ some h → ((s.tick ≡ 0) ⊎ (h.count < ask.given))
             → IsTimely w s.tick ask.given → Outcome seen log past ask (ends (Some (read_by ask s)) s)
         back_read h is at line timely = let u : unpack s.fields ≡ h = reads s.tick h s.fields is at in goes_end seen log past ask s (read_by ask s) record {
-          fits = record { ask = ask; hands = unpack s.fields; counter = counter_of s; at = at ∙ ap some (sym u); is = refl;
-              count = subst (λ z. FitsCount w z ask.given s.tick (unpack s.fields) (counter_of s)) (sym e)
-              (subst (λ (g : Hands). (s.tick ≡ 0) ⊎ (g.count < ask.given)) (sym u) line, timely); tick =
-              subst (λ z. IsReadSince z s.tick s.first) (sym e) walk.range };
+          fits = record {
+            ask = ask;
+            hands = unpack s.fields;
+            counter = counter_of s;
+            at = at ∙ ap some (sym u);
+            is = refl;
+            count = subst (λ z. FitsCount w z ask.given s.tick (unpack s.fields) (counter_of s)) (sym e)
+                (subst (λ (g : Hands). (s.tick ≡ 0) ⊎ (g.count < ask.given)) (sym u) line, timely);
+            tick =
+                subst (λ z. IsReadSince z s.tick s.first) (sym e) walk.range;
+          };
           later = f.later;
           reached = f.reached;
           counts = new_read ask.kind ask.given (counter_of s) (unpack s.fields) (counts_of log) (λ needs. absurd (true≢false (sym needs ∙ ap needs_even e)));
@@ -567,15 +646,27 @@ module _ (w : World) (back : (m : ℕ) (h : Hands) → get_elem? w.journal m ≡
           tick = f.tick;
           near = f.near;
           reached = f.reached;
-          kind = λ _. record { range = walk.range; above = walk.above;
-              top = λ _. (top, eqb-true (s.first % 2) 0 even, λ g at-g. let same : h ≡ g = some-injective h g (sym at ∙ at-g) in
-              (is ∙ ap pack same, subst (λ (x : Hands). x.count < ask.given) same less)) };
+          kind = λ _. record {
+            range = walk.range;
+            above = walk.above;
+            top = λ _. (
+              top,
+              eqb-true (s.first % 2) 0 even,
+              λ g at-g. let same : h ≡ g = some-injective h g (sym at ∙ at-g) in
+                  (is ∙ ap pack same, subst (λ (x : Hands). x.count < ask.given) same less),
+            );
+          };
           fields = f.fields;
           counters = f.counters;
         }
         finds_top_fits h is at less top false even = goes_end seen log past ask s
-            (Again ask.kind s.first s.first) record { fits = subst (λ z. FitsAgain w z s.first s.first s.first) (sym e)
-            (inl (refl, f.reached, inl (refl, odd (s.first % 2) (omega arith) even))); later = f.later; reached = f.reached; counts = no_read (counts_of log) }
+            (Again ask.kind s.first s.first) record {
+              fits = subst (λ z. FitsAgain w z s.first s.first s.first) (sym e)
+                  (inl (refl, f.reached, inl (refl, odd (s.first % 2) (omega arith) even)));
+              later = f.later;
+              reached = f.reached;
+              counts = no_read (counts_of log);
+            }
           where
             odd : (n : ℕ) → n < 2 → (n == 0) ≡ false → n ≡ 1
             odd zero h e = absurd (true≢false e)
@@ -593,17 +684,24 @@ module _ (w : World) (back : (m : ℕ) (h : Hands) → get_elem? w.journal m ≡
         goes_down_fits h is at low true b zero-is old-is = let z : s.tick ≡ 0 = eqb-true s.tick 0 zero-is in
             let same : cold ≡ h = some-injective cold h (sym start ∙ subst (λ t. get_elem? w.journal t ≡ some h) z at) in
             let none : ask.given ≤ 0 = subst (λ (x : Hands). ask.given ≤ x.count) (sym same) low in
-                back_read h is at (inl z) record { next = λ g at-g. omega arith; last = λ e. omega arith }
+            back_read h is at (inl z) record { next = λ g at-g. omega arith; last = λ e. omega arith }
         goes_down_fits h is at low false true zero-is old-is = let u : unpack s.fields ≡ h = reads s.tick h s.fields is at in
             let ne : s.tick ≢ 0 = λ e. true≢false (sym (eq-eqb _ _ e) ∙ zero-is) in
             goes_end seen log past ask s (TooOld ask.given (unpack s.fields).count) record {
-          fits = record { tick = s.tick; hands = h; at = at; is = ap (λ (x : Hands). x.count) (sym u);
-              not_after = subst (λ (x : Hands). ask.given ≤ x.count) (sym u) low; later = eqb-true (s.tick + 9) (s.first / 2) old-is;
-              some_tick = omega arith; reached = in-walk };
-          later = f.later;
-          reached = f.reached;
-          counts = no_read (counts_of log);
-        }
+              fits = record {
+                tick = s.tick;
+                hands = h;
+                at = at;
+                is = ap (λ (x : Hands). x.count) (sym u);
+                not_after = subst (λ (x : Hands). ask.given ≤ x.count) (sym u) low;
+                later = eqb-true (s.tick + 9) (s.first / 2) old-is;
+                some_tick = omega arith;
+                reached = in-walk;
+              };
+              later = f.later;
+              reached = f.reached;
+              counts = no_read (counts_of log);
+            }
         goes_down_fits h is at low false false zero-is old-is = let near = f.near in let range = walk.range in
             let ne : s.tick ≢ 0 = λ e. true≢false (sym (eq-eqb _ _ e) ∙ zero-is) in let ne' : s.tick
             + 9 ≢ s.first / 2 = λ e. true≢false (sym (eq-eqb _ _ e) ∙ old-is) in
@@ -641,12 +739,12 @@ module _ (w : World) (back : (m : ℕ) (h : Hands) → get_elem? w.journal m ≡
             looks_fits h.0 h.1 h.2 (nat_lt (unpack s.fields).count ask.given) refl
         finds_mark_fits false same = let near = f.near in let in-J' = in-walk in
             goes_end seen log past ask s (Again ask.kind (full_mark s.tick) (w.marks s.tick)) record {
-          fits = subst (λ z. FitsAgain w z s.first (full_mark s.tick) (w.marks s.tick)) (sym e)
-              (inr (s.tick, walk.range, (refl, later s.tick (omega arith) (not_full s.tick same))));
-          later = f.later;
-          reached = f.reached;
-          counts = no_read (counts_of log);
-        }
+              fits = subst (λ z. FitsAgain w z s.first (full_mark s.tick) (w.marks s.tick)) (sym e)
+                  (inr (s.tick, walk.range, (refl, later s.tick (omega arith) (not_full s.tick same))));
+              later = f.later;
+              reached = f.reached;
+              counts = no_read (counts_of log);
+            }
 
       walks_fits : (ask : Ask) (e : way_of ask.kind ≡ past) (b : Bool) → FitsCall w seen log past ask s
           → (has_fields s && not s.line && (s.tick == s.tick)) ≡ b → Outcome seen log past ask (walks b ask s (w.marks s.tick))

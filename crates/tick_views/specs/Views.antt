@@ -19,8 +19,20 @@ use Rattle.tick_reads.specs.Scans.{Scan, fresh, after, run}
 
 -- a new table
 abbrev pub pen_first : PenView
-pen_first = record { journal = cold ∷ []; winding = false; marked = false; set = false; loaded = None; counters = []; top = 0; met = []; out = false;
-    stored = []; made = 0; kept = [] }
+pen_first = record {
+  journal = cold ∷ [];
+  winding = false;
+  marked = false;
+  set = false;
+  loaded = None;
+  counters = [];
+  top = 0;
+  met = [];
+  out = false;
+  stored = [];
+  made = 0;
+  kept = [];
+}
 
 -- the steps of a windup, in their order
 abbrev pub turn_started : PenView → PenView
@@ -114,8 +126,15 @@ mark_load tick mark = record { tick = tick; mark = mark }
 
 -- after a further load, by which the call is as far as s
 abbrev pub settled : PassView → ℕ → List ℕ → List ℕ → List MarkLoad → Load → Scan → PassView
-settled v seen turns counters marks l s = record v { seen = seen; turns = turns; counters = counters; marks = marks; calling = undecided s.answer;
-    loads = v.loads ++ l ∷ []; entries = gained v.entries s.answer s.first }
+settled v seen turns counters marks l s = record v {
+  seen = seen;
+  turns = turns;
+  counters = counters;
+  marks = marks;
+  calling = undecided s.answer;
+  loads = v.loads ++ l ∷ [];
+  entries = gained v.entries s.answer s.first;
+}
 
 -- each load of a call
 abbrev pub turn_loaded : ℕ → PassView → PassView

@@ -21,8 +21,8 @@ use Rattle.tick_reads.specs.Looks.{full_mark}
 use Rattle.tick_reads.specs.Scans.{Scan, run, fresh}
 
 -- each member is at most t
-abbrev pub AllBelow : ℕ → List ℕ → Type 0
-AllBelow t xs = (i x : ℕ) → get_elem? xs i ≡ some x → x ≤ t
+abbrev pub AllAtMost : ℕ → List ℕ → Type 0
+AllAtMost t xs = (i x : ℕ) → get_elem? xs i ≡ some x → x ≤ t
 
 -- each member is at least t
 abbrev pub AllFrom : ℕ → List ℕ → Type 0
@@ -134,14 +134,14 @@ counts_of (e ∷ es) = counts_in e.entry ++ counts_of es
 pub record FitsLog (w : World) (log : List Noted) : Type 0 where
   pub each : (i : ℕ) (e : Noted) → get_elem? log i ≡ some e → FitsEntry w e.opening e.entry
   pub rises : NeverFall (map opening_of log)
-  pub below : AllBelow w.turn (map opening_of log)
+  pub below : AllAtMost w.turn (map opening_of log)
   pub counts_rise : NeverFall (counts_of log)
-  pub counts_below : AllBelow w.counter (counts_of log)
+  pub counts_below : AllAtMost w.counter (counts_of log)
 
 -- what the pen kept of a pass
 pub record FitsKept (w : World) (k : Kept) : Type 0 where
   pub seen : k.seen ≤ length w.journal
-  pub counters : AllBelow w.counter k.counters
+  pub counters : AllAtMost w.counter k.counters
   pub log : FitsLog w k.entries
 
 -- a conversion is at a tick of the last ten, and the tick above it is not before the counter given
@@ -161,24 +161,24 @@ FitsKind w past ask s = FitsWalk w ask s
 pub record FitsCall (w : World) (known : ℕ) (log : List Noted) (y : Way) (ask : Ask) (s : Scan) : Type 0 where
   pub begun : s.begun ≡ true
   pub undecided : s.answer ≡ None
-  pub later : AllBelow s.first (map opening_of log)
+  pub later : AllAtMost s.first (map opening_of log)
   pub tick : s.first / 2 < known
   pub near : s.tick ≤ s.first / 2
   pub reached : s.first ≤ w.turn
   pub kind : s.good ≡ true → FitsKind w y ask s
   pub fields : s.good ≡ true → w.marks s.tick ≡ full_mark s.tick → (h : Hands) → get_elem? w.journal s.tick ≡ some h → StartsWith (pack h) s.fields
-  pub counters : (i c : ℕ) → get_elem? s.counters i ≡ some c → (c ≤ w.counter) × AllBelow c (counts_of log)
+  pub counters : (i c : ℕ) → get_elem? s.counters i ≡ some c → (c ≤ w.counter) × AllAtMost c (counts_of log)
       × ((h : Hands) → get_elem? w.journal (s.first / 2) ≡ some h → h.count ≤ c) × (y ≡ past → ask.given ≤ c)
 
 -- a pass knows nothing that was not so
 pub record FitsPass (w : World) (v : PassView) : Type 0 where
   pub seen : v.seen ≤ length w.journal
   pub rises : NeverFall v.turns
-  pub below : AllBelow w.turn v.turns
+  pub below : AllAtMost w.turn v.turns
   pub known : (i t : ℕ) → get_elem? v.turns i ≡ some t → t / 2 < v.seen
   pub number : v.number < w.made
   pub counters_rise : NeverFall v.counters
-  pub counters_below : AllBelow w.counter v.counters
+  pub counters_below : AllAtMost w.counter v.counters
   pub marks : (i : ℕ) (l : MarkLoad) → get_elem? v.marks i ≡ some l → FitsMark w l
   pub log : FitsLog w v.entries
   pub call : v.calling ≡ true → FitsCall w v.seen v.entries (way_of v.ask.kind) v.ask (run v.ask fresh v.loads)

@@ -3,8 +3,8 @@ ghost use Rattle.std.specs.Prelude.{◌≡◌, ℕ, max, length, ◌++◌, ◌�
 ghost use Rattle.clock_logs.specs.Legal.{full, quick, past};
 ghost use Rattle.clock_lines.specs.declared.readings.Entry.TheVariants as entry;
 ghost use Rattle.tick_views.specs.Samples.{small};
-ghost use Rattle.tick_views.specs.Views.{crank_raised, kept_of, noted_cut, pass_cut, top_raised};
-ghost use Rattle.tick_views.specs.Worlds.{AllBelow, FitsAgain, FitsEntry, NeverFall};
+ghost use Rattle.tick_views.specs.Views.{crank_raised, kept_of, mark_load, noted_cut, pass_cut, top_raised};
+ghost use Rattle.tick_views.specs.Worlds.{AllAtMost, FitsAgain, FitsEntry, FitsMark, NeverFall};
 ghost use Rattle.tick_views.specs.declared.views.CrankView.{CrankView};
 ghost use Rattle.tick_views.specs.declared.views.PassView.{PassView};
 ghost use Rattle.tick_views.specs.declared.views.PenView.{PenView};
@@ -61,8 +61,20 @@ pub fn other_answers_have_a_cause()
     ensures at { FitsEntry small 24 (entry.Ahead 60 60) → ⊥ }
 {}
 
+/// The law that a mark which was loaded of a tick is its own, or that of a tick at least ten later in its slot.
+pub fn marks_are_of_their_slots()
+    ensures own { FitsMark small (mark_load 2 6) }
+    ensures later { FitsMark small (mark_load 2 26) }
+    ensures later_and_open { FitsMark small (mark_load 2 25) }
+    ensures not_full { FitsMark small (mark_load 2 5) → ⊥ }
+    ensures none { FitsMark small (mark_load 2 0) → ⊥ }
+    ensures earlier { FitsMark small (mark_load 12 6) → ⊥ }
+    ensures of_another_slot { FitsMark small (mark_load 2 24) → ⊥ }
+    ensures not_there { FitsMark small (mark_load 3 28) → ⊥ }
+{}
+
 /// The law of numbers that never fall, and of numbers that are none above another.
 pub fn numbers_fall()
     ensures fall { NeverFall (4 ∷ 5 ∷ 3 ∷ []) → ⊥ }
-    ensures above { AllBelow 5 (4 ∷ 6 ∷ []) → ⊥ }
+    ensures above { AllAtMost 5 (4 ∷ 6 ∷ []) → ⊥ }
 {}

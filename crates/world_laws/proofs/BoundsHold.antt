@@ -53,7 +53,7 @@ parts-cover rate n some =
     let parts : 1000000000000 * rate_error rate ≤ rate_parts rate * rate.period = (div_ceil_times (1000000000000 * rate_error rate) rate.period some).0 in
     let each : n * (1000000000000 * rate_error rate) ≤ n * (rate_parts rate * rate.period) = mul-le-mul_left n parts in
     let ceil : n * rate.period * rate_parts rate ≤ div_ceil (n * rate.period * rate_parts rate)
-        1000000000000 * 1000000000000 = (div_ceil_times (n * rate.period * rate_parts rate) 1000000000000 (omega arith)).0 in
+    1000000000000 * 1000000000000 = (div_ceil_times (n * rate.period * rate_parts rate) 1000000000000 (omega arith)).0 in
     omega arith
 
 -- an estimate's time at a later count
@@ -124,10 +124,22 @@ among-fold freq all e (k, within, at) =
 take-tells : (freq : ℕ) (all : List Stamp) (h : Hands) (count : ℕ) (e : Estimate) → IsEstimate freq all (leapless e) → e.update_ffcount ≤ count
     → e.status.unsync ≡ false
     → (b : Bool) → Tells freq all (cond b (take_jump h count e) (take_on h count e))
-take-tells freq all h count e of reached sync true = record { index = of.index; here = of.here; is = of.is; sync = sync; update = reached;
-    time = number_of-of_grains (time_of e count) }
-take-tells freq all h count e of reached sync false = record { index = of.index; here = of.here; is = of.is; sync = sync; update = reached;
-    time = number_of-of_grains (time_of e count) }
+take-tells freq all h count e of reached sync true = record {
+  index = of.index;
+  here = of.here;
+  is = of.is;
+  sync = sync;
+  update = reached;
+  time = number_of-of_grains (time_of e count);
+}
+take-tells freq all h count e of reached sync false = record {
+  index = of.index;
+  here = of.here;
+  is = of.is;
+  sync = sync;
+  update = reached;
+  time = number_of-of_grains (time_of e count);
+}
 
 take-sync : (h : Hands) (count : ℕ) (e : Estimate) (b : Bool) → (cond b (take_jump h count e) (take_on h count e)).kstatus.unsync ≡ false
     → e.status.unsync ≡ false
@@ -143,7 +155,7 @@ wound-tells freq all h count order.Plain f by before sync =
     let tells = before both.0 in
     let on = fits-on h count order.Plain f in
     let moved : (count - h.est.update_ffcount) * h.est.period ≡ (h.count - h.est.update_ffcount + (count - h.count)) * h.est.period = ap
-        (λ n. n * h.est.period) (omega (arith, on.later, tells.update)) in
+    (λ n. n * h.est.period) (omega (arith, on.later, tells.update)) in
     record {
       index = tells.index;
       here = tells.here;
@@ -171,10 +183,10 @@ tick-tells freq all ticks is by (suc n) h here sync =
     let next : slice_get ticks (n + 1) ≡ Some h = (let e : n + 1 ≡ suc n = omega arith in ap (slice_get ticks) e ∙ here) in
     let follows = is.next n before h there next in
     let goes : GoesBy freq all (order_of h) = subst (λ (h : Hands). GoesBy freq all (order_of h)) (get_or_from_slice_get ticks (suc n) h h here)
-        (by (suc n) h place) in
+    (by (suc n) h place) in
     subst (Tells freq all) (sym follows.wound)
     (wound-tells freq all before h.count (order_of h) follows.fits goes (tick-tells freq all ticks is by n before there)
-        (subst (λ (h : Hands). h.kstatus.unsync ≡ false) follows.wound sync))
+    (subst (λ (h : Hands). h.kstatus.unsync ≡ false) follows.wound sync))
 
 pub ticks-true : (freq : ℕ) (w : World) (all : List Stamp) (ticks : List Hands) → 1000000 ≤ freq → freq ≤ 16000000000 → IsFit freq w
     → AreAccepted freq all → All (LiesIn w) all → IsJournal ticks → All (λ h. GoesBy freq all (order_of h)) ticks → AreTrueTicks w ticks
@@ -192,15 +204,15 @@ ticks-true freq w all ticks low high fit are lie is by n h here sync = by_kind
     by_kind : IsTrueTick w h
     by_kind kind.Abs count late =
         let moved : (count - h.est.update_ffcount) * h.est.period ≡ (h.count - h.est.update_ffcount + (count - h.count)) * h.est.period = ap
-            (λ n. n * h.est.period) (omega (arith, tells.update)) in
+        (λ n. n * h.est.period) (omega (arith, tells.update)) in
         let time : number_of (value_of h kind.Abs count) ≡ time_of h.est count = number_of-of_grains (moved_time h count)
-            ∙ omega (arith, ints, tells.time, moved) in
+        ∙ omega (arith, ints, tells.time, moved) in
         rw time (covers count late)
     by_kind kind.Fast count at = subst (λ n. distance w (number_of h.time) n ≤ time_bound h.est n) at (rw tells.time (covers h.count (omega arith)))
     by_kind kind.Diff counts any =
         rw (number_of-of_grains (pos (counts * h.est.period)))
         (subst (λ (e : Estimate). unsigned_abs (pos (counts * e.period) -ℤ pos (w.period * counts)) ≤ rate_bound e counts) (sym tells.is)
-            (interval-covers freq w all tells.index counts low high fit are lie))
+        (interval-covers freq w all tells.index counts low high fit are lie))
     by_kind kind.Mono count late = tt
     by_kind kind.Uptime count late = tt
     by_kind kind.Back count late = tt

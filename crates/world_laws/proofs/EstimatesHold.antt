@@ -42,7 +42,7 @@ among P all from i each k d within =
     let few = length-take (i + 1 - from) (drop from all) in
     let rest = length-drop from all in
     let place : get_or (slice_range all from (i + 1)) k d ≡ get_or all (from + k) d = get_or-take (i + 1 - from) (drop from all) k d (omega arith)
-        ∙ get_or-drop from all k d in
+    ∙ get_or-drop from all k d in
     subst P (sym place) (each (from + k) d (omega arith) (omega arith))
 
 -- whichever is taken, where both are within their spreads
@@ -98,7 +98,7 @@ module _ (freq : ℕ) (w : World) (all : List Stamp) (fit : IsFit freq w) (are :
       mean-holds freq now w (terms_at freq all i) fit
       (All-map Within term (slice_range all from (i + 1)) (among (λ s. Within (term s)) all from i (λ k d early there.
       term-holds freq base now w rate (get_or all k d) fit (are.timed k d there) (are.sound k d there) (lie k d there)
-          (sane.rate-in_use freq all i are) (in_use-covers i) (reply-before freq all k i d are early here))))
+      (sane.rate-in_use freq all i are) (in_use-covers i) (reply-before freq all k i d are early here))))
 
   pub taken-holds : (i : ℕ) → i < length all → distance w (taken_at freq all i).time (count_at all i) ≤ (taken_at freq all i).spread
   unfolding taken_before
@@ -109,7 +109,7 @@ module _ (freq : ℕ) (w : World) (all : List Stamp) (fit : IsFit freq w) (are :
       let now : ℕ = count_at all (suc i) in
       chosen-holds w now (suc i) t.run (predicted_by rate (now - count_at all i) t) (mean_at freq all (suc i))
       (prediction-holds freq (count_at all i) now w rate t (sane.rate-over 1024 freq all (suc i) are) (rate-covers 1024 (suc i))
-          (sane.count-before freq all (suc i) are here) (taken-holds i (omega arith)))
+      (sane.count-before freq all (suc i) are here) (taken-holds i (omega arith)))
       (mean-at (suc i) here)
 
   pub rate-holds : (i : ℕ) → Covers (full_at freq all i).rate w.period

@@ -77,7 +77,7 @@ journal-goes freq between beside items ticks is k d here =
     let all : List Stamp = stamps_of items in
     let steps : List PlanStep = plan_of freq (events_of freq items) between in
     let goes : All (GoesBy freq all) (order.Plain ∷ map (λ s. s.order) steps) = All-cons (GoesBy freq all) order.Plain (map (λ s. s.order) steps) tt
-        (All-map (GoesBy freq all) (λ s. s.order) steps (plan-goes freq between items)) in
+    (All-map (GoesBy freq all) (λ s. s.order) steps (plan-goes freq between items)) in
     let goes' : All (GoesBy freq all) (map order_of ticks) = subst (All (GoesBy freq all)) (sym (orders-of beside steps ticks is)) goes in
     subst (GoesBy freq all) (get_or-map order_of ticks k d (order_of d) here) (goes' k (order_of d) (omega (arith, length-map ticks order_of)))
 
@@ -91,4 +91,4 @@ pub plays-true : (freq between : ℕ) (w : World) (items : List Item) → 100000
     → AreAcceptedItems freq items → All (LiesIn w) (stamps_of items) → AreTrueTicks w (journal_of (plan_of freq (events_of freq items) between))
 plays-true freq between w items low high fit are lie =
     readings-true freq between false w items _ low high fit are lie
-        (journal-made (plan_of freq (events_of freq items) between) (plan-fits freq (events_of freq items) between low (in-turn freq items low are)))
+    (journal-made (plan_of freq (events_of freq items) between) (plan-fits freq (events_of freq items) between low (in-turn freq items low are)))

@@ -42,7 +42,7 @@ takes-marked ticks zero h e is here take = let clash = first-plain ticks h is he
 takes-marked ticks (suc n) h e is here take =
     let was : Hands = get_or ticks n cold in
     ap (λ (h : Hands). h.kstatus) (before ticks n h is here).1.wound ∙ ap (λ (o : Order). (wind_of was h.count o).kstatus) take
-        ∙ take-marks was h.count e (jumps was e)
+    ∙ take-marks was h.count e (jumps was e)
 
 -- the tick of the set itself
 set-marked : (ticks : List Hands) (m n : ℕ) (set h : Hands) (e : Estimate) → IsJournal ticks → slice_get ticks m ≡ Some set
@@ -61,12 +61,12 @@ sets-marked ticks m (suc n) set h e is at reset mark order here plain =
           (let was : Hands = get_or ticks n cold in
           let step = before ticks n h is here in
           let marked : was.kstatus.unsync ≡ true = sets-marked ticks m n set was e is at reset mark (omega arith) step.0
-              (λ k between low high. plain k between low (omega arith)) in
+          (λ k between low high. plain k between low (omega arith)) in
           ap (λ (h : Hands). h.kstatus.unsync) step.1.wound ∙ ap (λ (o : Order). (wind_of was h.count o).kstatus.unsync)
-              (plain (suc n) h less (omega arith) here) ∙ ap (λ t. t || is_old was h.count) marked)
+          (plain (suc n) h less (omega arith) here) ∙ ap (λ t. t || is_old was h.count) marked)
     ]
 
 pub takes-true : TakesAreTrue
 takes-true freq between beside w items ticks low high fit are lie is n h e here take sync =
     readings-true freq between beside w items ticks low high fit are lie is n h here
-        (ap (λ (s : Marks). s.unsync) (takes-marked ticks n h e is.journal here take) ∙ sync)
+    (ap (λ (s : Marks). s.unsync) (takes-marked ticks n h e is.journal here take) ∙ sync)

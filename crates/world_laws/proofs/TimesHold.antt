@@ -57,7 +57,7 @@ term-holds freq base now w rate s fit timed sound lies is covers late =
     let order : grains_of s.tb ≤ grains_of s.te = omega (arith, ints, timed.tb.low, timed.te.low, sound.times) in
     let at = is-in freq w s fit lies timed.tb timed.te sound.counters order in
     let near = term-near (unsigned_abs w.start) w.period rate.high (rate_error rate * counts_since now s) s.ta (grains_of s.tb) (grains_of s.te) s.tf
-        now rate.period at late covers.high (drift freq rate w.period (counts_since now s) is covers) in
+    now rate.period at late covers.high (drift freq rate w.period (counts_since now s) is covers) in
     omega (arith, ints, fit.start, near.above, near.below)
 
 -- sums of terms that are near to twice a number
@@ -100,7 +100,7 @@ mean-holds freq now w terms fit each = by_weight (weights_of terms) refl
         let some : 0 < weights_of terms = omega (arith, e) in
         let Y : ℕ = unsigned_abs w.start + w.period * now in
         let sums = sums-near Y terms (λ k d here. (let this = each k d here in
-            record { above = omega (arith, ints, fit.start, this); below = omega (arith, ints, fit.start, this) })) in
+        record { above = omega (arith, ints, fit.start, this); below = omega (arith, ints, fit.start, this) })) in
         let near = mean-near Y (times_of terms) (spreads_of terms) (weights_of terms) some sums in
         rw (mean_of_some terms some) (omega (arith, ints, fit.start, near.above, near.below))
 

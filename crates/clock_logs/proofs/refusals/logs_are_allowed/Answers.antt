@@ -8,11 +8,48 @@ use Rattle.clock_logs.proofs.refusals.logs_are_allowed.Goals as goal
 
 pub returns-clause-every : goal.returns-clause-every
 unfolding value_of bound_of
-returns-clause-every c = legal_by ticks every (search (at_two, arith),
-    (search (at_two, arith), (search (at_two, arith), (search (at_two, arith),
-    (search (at_two, arith), (search (at_two, arith), (search (at_one, arith),
-    (search arith, (search arith, (search arith, (record { tick = 3; some = omega arith; hands = _; at = refl; oldest_is = refl;
-    not_after = search arith; made = search arith }, (omega arith, tt)))))))))))) refl refl
+returns-clause-every c = legal_by ticks every (
+  search (at_two, arith),
+  (
+    search (at_two, arith),
+    (
+      search (at_two, arith),
+      (
+        search (at_two, arith),
+        (
+          search (at_two, arith),
+          (
+            search (at_two, arith),
+            (
+              search (at_one, arith),
+              (
+                search arith,
+                (
+                  search arith,
+                  (
+                    search arith,
+                    (
+                      record {
+                        tick = 3;
+                        some = omega arith;
+                        hands = _;
+                        at = refl;
+                        oldest_is = refl;
+                        not_after = search arith;
+                        made = search arith;
+                      },
+                      (omega arith, tt),
+                    ),
+                  ),
+                ),
+              ),
+            ),
+          ),
+        ),
+      ),
+    ),
+  ),
+) refl refl
 
 pub returns-clause-past_falls : goal.returns-clause-past_falls
 unfolding value_of bound_of

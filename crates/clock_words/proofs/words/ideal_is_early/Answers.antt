@@ -11,6 +11,6 @@ pub returns : goal.returns
 returns c =
     let test : List ℕ → Bool = λ w. bytes_eq w (codes "--ideal") in
     any_from_yields_List (λ (w : Bor (List ℕ)). test w.now) _ _ c.any.result c.any.ensures.ran
-        (YieldsList-from_take 2 (YieldsList-from_slice c.args.words.now cc) cc) (λ x b q k. search rules)
+    (YieldsList-from_take 2 (YieldsList-from_slice c.args.words.now cc) cc) (λ x b q k. search rules)
     ∙ list_any-map test (λ (w : Bor (List ℕ)). w.now) (take 2 c.args.words.now)
     ∙ ap (list_any test) (sym (take-map (λ (w : Bor (List ℕ)). w.now) 2 c.args.words.now))

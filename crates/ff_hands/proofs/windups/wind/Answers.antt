@@ -14,7 +14,7 @@ returns-clause-sound c = subst IsSound (sym c.wound.ensures) (sound-wound c.args
 pub returns-clause-slope : goal.returns-clause-slope
 returns-clause-slope c =
     let is = subst IsBounded (sym c.wound.ensures) (wind-bounded c.args.h.now c.args.count c.args.o.now (sound-bounded c.args.h.now c.requires.sound)
-        c.requires.fits) in
+    c.requires.fits) in
     (is.slope_low, is.slope_high)
 
 pub returns-clause-line : goal.returns-clause-line

@@ -9,4 +9,4 @@ pub returns-in-Leap-clause-test : goal.returns-in-Leap-clause-test
 returns-in-Leap-clause-test c =
     let range : IsLeapInRange c.in-Leap.count c.in-Leap.leap = subst IsItemInRange c.in-Leap.is c.requires.range in
     c.leap.ensures.test c.args.freq ∙ ap (λ z. test_of c.args.freq c.args.past.now (item.Leap c.in-Leap.count z))
-        (sign-back c.in-Leap.leap range.sign) ∙ ap (test_of c.args.freq c.args.past.now) (sym c.in-Leap.is)
+    (sign-back c.in-Leap.leap range.sign) ∙ ap (test_of c.args.freq c.args.past.now) (sym c.in-Leap.is)

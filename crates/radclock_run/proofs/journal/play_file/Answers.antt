@@ -8,4 +8,4 @@ returns-clause-counts g c =
     let file = c.args.file.now in
     let said = c.in_ok-said in
     c.counts_of-counts.ensures ∙ ends-so (outcomes file.head.freq [] file.items.items) _ _ _
-        (said-count file.head.freq file.items.items _ said.ensures.events.fold) said.ensures.refused
+    (said-count file.head.freq file.items.items _ said.ensures.events.fold) said.ensures.refused

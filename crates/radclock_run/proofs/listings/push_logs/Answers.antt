@@ -16,18 +16,20 @@ returns-in_err-push_log g c =
     let same = c.deref.ensures.value ∙ ap (λ l. l.entries.items) c.index-logs-i.is in
     let p = err_from_is_err_and c.from_residual.result c.from_residual.ensures.1 in
     let one = subst (λ es. Broke g.K.Sink.written g.K.Sink.faults g.K.Sink.push_gives c.loop-i.sink (entry_lines c.loop-i.i 0 es)
-        c.push_log.new.sink) same c.in_err-push_log.ensures in
+    c.push_log.new.sink) same c.in_err-push_log.ensures in
     rw p.1 (listing-breaks _ _ _ lines_of_logs (λ n l. entry_lines n 0 l.entries.items) (λ n x xs. refl) c.args.logs.now c.loop-i.i d _ _ _
-        c.loop-i-test.true c.loop-i.invariant.listing one)
+    c.loop-i-test.true c.loop-i.invariant.listing one)
 
 pub loop-i-preserved : goal.loop-i-preserved
 loop-i-preserved g c =
     let d = c.index-logs-i.result in
     let same = c.deref.ensures.value ∙ ap (λ l. l.entries.items) c.index-logs-i.is in
     let one = subst (λ es. Wrote g.K.Sink.written g.K.Sink.faults g.K.Sink.push_gives c.loop-i.sink (entry_lines c.loop-i.i 0 es)
-        c.push_log.new.sink) same c.in_ok-push_log.ensures in
-    record { listing = listing-more _ _ _ lines_of_logs (λ n l. entry_lines n 0 l.entries.items) (λ n x xs. refl) c.args.logs.now c.loop-i.i d _ _ _
-        c.loop-i-test.true c.loop-i.invariant.listing one }
+    c.push_log.new.sink) same c.in_ok-push_log.ensures in
+    record {
+      listing = listing-more _ _ _ lines_of_logs (λ n l. entry_lines n 0 l.entries.items) (λ n x xs. refl) c.args.logs.now c.loop-i.i d _ _ _
+          c.loop-i-test.true c.loop-i.invariant.listing one;
+    }
 
 pub returns : goal.returns
 returns g c = listing-done _ _ _ lines_of_logs (λ n. refl) c.args.logs.now c.loop-i.i _ _ c.loop-i-test.false c.loop-i.invariant.listing

@@ -13,9 +13,9 @@ ok-gives (Err e) P Q f h = tt
 pub returns-in-Ok-start-clause-ran : goal.returns-in-Ok-start-clause-ran
 returns-in-Ok-start-clause-ran g c =
     let words = words-by (λ t. t.now) string_bytes c.deref.result.now c.in-Ok.texts.items c.words_behind.result.now c.args.words.now
-        c.deref.ensures.value c.in-Ok.ensures c.words_behind.ensures in
+    c.deref.ensures.value c.in-Ok.ensures c.words_behind.ensures in
     ok-gives c.run_in_blocks.result.0 _ (λ status. HasRun g.S.Source.pull_gives g.K.Sink.push_gives (map string_bytes c.args.words.now)
-        c.args.source.now c.run_in_blocks.new.source c.args.sink c.run_in_blocks.result.1 status)
+    c.args.source.now c.run_in_blocks.new.source c.args.sink c.run_in_blocks.result.1 status)
     (λ status ran. record {
       desk = c.in-Ok-start.desk;
       fresh = c.in-Ok-start.ensures.fresh;

@@ -25,7 +25,7 @@ loop-made-preserved g c =
     let inv = c.loop-made.invariant in
     let i = c.loop-made.maker.made in
     let is : c.in-Some.made ≡ made a.number a.count i = c.in-Some.ensures.made ∙ ap (λ (n : ℕ). made n c.loop-made.maker.count i) inv.of.0
-        ∙ ap (λ (n : ℕ). made a.number n i) inv.of.1 in
+    ∙ ap (λ (n : ℕ). made a.number n i) inv.of.1 in
     let next : i + 1 ≡ c.next.new.self.made = sym (ap (λ m. m.made) c.in-Some.ensures.counted) in
     let less : i < a.count = omega (arith, c.in-Some.ensures.left, inv.of.1) in
     let more = c.in_ok-gather_made.ensures.gathered frequency (map item.Stamp (first_stamps a.number a.count i)) inv.gathered in
@@ -44,4 +44,4 @@ returns g c =
     let a = c.args.asked.now in
     let inv = c.loop-made.invariant in
     subst (λ n. AreOf c.loop-made.events.items frequency (map item.Stamp (first_stamps a.number a.count n))) (c.in_default.ensures.made ∙ inv.of.1)
-        inv.gathered.are
+    inv.gathered.are

@@ -16,7 +16,7 @@ returns-in_err-estimate_line g c =
     let same = closes-so c.args.fulls.now c.last_full.result c.args.ticks.now (newest c.args.ticks.now) c.args.entries c.last_full.ensures refl in
     subst (λ ls. Writes g.K.Sink.written g.K.Sink.faults g.K.Sink.push_gives c.args.sink.now ls c.from_residual.result c.estimate_line.new.sink) same
     (rw p.1 (broke _ _ _ _ _ _ [] (estimate_text (length c.args.fulls.now - 1) c.last_full.result 1) _ (sink.appends _ _ _ _ once)
-        (sink.cause _ _ _ _ once) (wrote_nothing _ _ _ _) once))
+    (sink.cause _ _ _ _ once) (wrote_nothing _ _ _ _) once))
 
 pub returns-in_err-tick_line : goal.returns-in_err-tick_line
 returns-in_err-tick_line g c =
@@ -26,11 +26,11 @@ returns-in_err-tick_line g c =
     let p = err_from_is_err_and c.from_residual-in_err-tick_line.result c.from_residual-in_err-tick_line.ensures.1 in
     let same = closes-so c.args.fulls.now c.last_full.result c.args.ticks.now c.newest.result c.args.entries c.last_full.ensures c.newest.ensures in
     let first = wrote_more _ _ _ _ _ _ [] (estimate_text (length c.args.fulls.now - 1) c.last_full.result 1) (sink.appends _ _ _ _ once)
-        (sink.cause _ _ _ _ once) (wrote_nothing _ _ _ _) once in
+    (sink.cause _ _ _ _ once) (wrote_nothing _ _ _ _) once in
     subst (λ ls. Writes g.K.Sink.written g.K.Sink.faults g.K.Sink.push_gives c.args.sink.now ls c.from_residual-in_err-tick_line.result
-        c.tick_line.new.sink) same
+    c.tick_line.new.sink) same
     (rw p.1 (broke _ _ _ _ _ _ (_ ∷ []) (tick_text (length c.args.ticks.now - 1) c.newest.result) _ (sink.appends _ _ _ _ twice)
-        (sink.cause _ _ _ _ twice) first twice))
+    (sink.cause _ _ _ _ twice) first twice))
 
 pub returns : goal.returns
 returns g c =
@@ -45,5 +45,5 @@ returns g c =
     let second = wrote_more _ _ _ _ _ _ (estimate ∷ []) tick (sink.appends _ _ _ _ twice) (sink.cause _ _ _ _ twice) first twice in
     subst (λ ls. Writes g.K.Sink.written g.K.Sink.faults g.K.Sink.push_gives c.args.sink.now ls c.end_line.result c.end_line.new.sink) same
     (writes_last _ _ _ c.args.sink.now c.tick_line.new.sink c.end_line.new.sink (estimate ∷ tick ∷ [])
-        (end_text (run_counts c.args.fulls.now c.args.ticks.now c.args.entries)) c.end_line.result (sink.appends _ _ _ _ last)
-        (sink.cause _ _ _ _ last) second last)
+    (end_text (run_counts c.args.fulls.now c.args.ticks.now c.args.entries)) c.end_line.result (sink.appends _ _ _ _ last)
+    (sink.cause _ _ _ _ last) second last)

@@ -19,8 +19,8 @@ returns g c =
     let once = c.in_ok-head_line.ensures in
     let last = c.summary_line.ensures in
     let head = wrote_more _ _ _ _ _ _ [] (head_text (run_head c.args.asked.now)) (sink.appends _ _ _ _ once) (sink.cause _ _ _ _ once)
-        (wrote_nothing _ _ _ _) once in
+    (wrote_nothing _ _ _ _) once in
     let told = writes_last _ _ _ c.args.sink.now c.head_line.new.sink c.summary_line.new.sink (head_text (run_head c.args.asked.now) ∷ [])
-        (summary_text c.summary_of.result) c.summary_line.result (sink.appends _ _ _ _ last) (sink.cause _ _ _ _ last) head last in
+    (summary_text c.summary_of.result) c.summary_line.result (sink.appends _ _ _ _ last) (sink.cause _ _ _ _ last) head last in
     subst (λ s. Writes g.K.Sink.written g.K.Sink.faults g.K.Sink.push_gives c.args.sink.now
-        (head_text (run_head c.args.asked.now) ∷ summary_text s ∷ []) c.summary_line.result c.summary_line.new.sink) c.summary_of.ensures told
+    (head_text (run_head c.args.asked.now) ∷ summary_text s ∷ []) c.summary_line.result c.summary_line.new.sink) c.summary_of.ensures told

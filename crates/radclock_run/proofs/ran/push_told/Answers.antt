@@ -9,7 +9,7 @@ returns-in-Some g c =
     let f = c.in-Some.f in
     let last = c.ideal_line.ensures in
     rw c.in-Some.is (writes_last _ _ _ c.args.sink.now c.args.sink.now c.ideal_line.new.sink [] (ideal_text f.tick f.distance f.bound)
-        c.ideal_line.result (sink.appends _ _ _ _ last) (sink.cause _ _ _ _ last) (wrote_nothing _ _ _ _) last)
+    c.ideal_line.result (sink.appends _ _ _ _ last) (sink.cause _ _ _ _ last) (wrote_nothing _ _ _ _) last)
 
 pub returns-in-None : goal.returns-in-None
 returns-in-None g c = rw c.in-None.is (wrote_nothing _ _ _ c.args.sink.now)

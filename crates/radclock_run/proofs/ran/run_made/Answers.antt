@@ -13,7 +13,7 @@ pub farthest_told-told-requires-clause-many : goal.farthest_told-told-requires-c
 farthest_told-told-requires-clause-many g c =
     let ready = c.in-Ok.ready in
     let left_so = replay-left frequency run_options (run_items c.args.asked.now) ready.plan ready.logs.items c.play.new.logs.items _ _
-        c.in-Ok.ensures.ready c.play.ensures.played in
+    c.in-Ok.ensures.ready c.play.ensures.played in
     subst (λ (ticks : List Hands). 2 < length ticks) (sym c.journal.ensures.value) (has-ticks c.args.asked.now _ c.requires.asked.1 left_so)
 
 pub tell-requires-clause-some : goal.tell-requires-clause-some
@@ -25,15 +25,23 @@ pub tell-requires-clause-entries : goal.tell-requires-clause-entries
 tell-requires-clause-entries g c =
     let ready = c.in-Ok.ready in
     let printed = replay-printed frequency run_options (run_items c.args.asked.now) ready.plan ready.logs.items c.play.new.logs.items _ _
-        c.in-Ok.ensures.ready c.play.ensures.played (omega arith) (omega arith) in
+    c.in-Ok.ensures.ready c.play.ensures.played (omega arith) (omega arith) in
     sym (printed.entries ∙ ap entries_in printed.same)
 
 pub returns-in-Ok : goal.returns-in-Ok
 returns-in-Ok g c =
     let ready = c.in-Ok.ready in
     let left_so = replay-left frequency run_options (run_items c.args.asked.now) ready.plan ready.logs.items c.play.new.logs.items _ _
-        c.in-Ok.ensures.ready c.play.ensures.played in
+    c.in-Ok.ensures.ready c.play.ensures.played in
     let farthest = subst (λ (ticks : List Hands). IsTold c.args.asked.now ticks c.farthest_told-told.result) c.journal.ensures.value
-        c.farthest_told-told.ensures in
-    inl (c.farthest_told-told.result, record { accepted = subst (AreAccepted frequency) (stamps-back (run_stamps c.args.asked.now))
-        c.in-Ok.ensures.accepted.stamps; replayed = left_so; farthest = farthest }, c.tell.ensures)
+    c.farthest_told-told.ensures in
+    inl (
+      c.farthest_told-told.result,
+      record {
+        accepted = subst (AreAccepted frequency) (stamps-back (run_stamps c.args.asked.now))
+            c.in-Ok.ensures.accepted.stamps;
+        replayed = left_so;
+        farthest = farthest;
+      },
+      c.tell.ensures,
+    )

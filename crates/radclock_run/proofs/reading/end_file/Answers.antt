@@ -16,20 +16,20 @@ pub returns-in-Ok-None-clause-ok : goal.returns-in-Ok-None-clause-ok
 returns-in-Ok-None-clause-ok c limited text short was =
     let answer = (rw c.in-Ok-None.field-0-is at c.in-Ok-None.ensures.answer) text (omega arith) was.stands in
     file-whole limited c.args.file c.args.quota text short answer.0
-        (subst (Gathers limited c.args.file c.args.quota) (sym (answer.1 ∙ append-nil (given text))) was.gathers)
+    (subst (Gathers limited c.args.file c.args.quota) (sym (answer.1 ∙ append-nil (given text))) was.gathers)
 
 pub returns-in-Ok-clause-ok : goal.returns-in-Ok-clause-ok
 returns-in-Ok-clause-ok c limited text short was =
     let answer = (rw c.in-Ok-Some.field-0-is at c.in-Ok-Some.ensures.answer) text (omega arith) was.stands in
     let ranged = rw c.in-Ok-Some.field-0-is at c.in-Ok-Some.ensures.ranges in
     file-whole limited c.keep.new.file c.keep.new.quota text short answer.0
-        (gathers-last limited c.args.file c.keep.new.file c.args.quota c.keep.new.quota text c.in-Ok-Some.line was.gathers c.in-Ok.ensures.ok answer.1 ranged)
+    (gathers-last limited c.args.file c.keep.new.file c.args.quota c.keep.new.quota text c.in-Ok-Some.line was.gathers c.in-Ok.ensures.ok answer.1 ranged)
 
 pub returns-in-Err-keep-clause-err : goal.returns-in-Err-keep-clause-err
 returns-in-Err-keep-clause-err c =
     let answer = rw c.in-Ok-Some.field-0-is at c.in-Ok-Some.ensures.answer in
     IsInputStop-weaker c.in-Err-keep.stop _ _ (λ passes limited text short was. last-stops limited c.args.file c.args.quota text c.in-Ok-Some.line
-        c.in-Err-keep.stop short was.gathers (answer text (omega arith) was.stands).1 passes) c.in-Err-keep.ensures.err
+    c.in-Err-keep.stop short was.gathers (answer text (omega arith) was.stands).1 passes) c.in-Err-keep.ensures.err
 
 pub returns-in-Err-clause-err : goal.returns-in-Err-clause-err
 returns-in-Err-clause-err c limited text short was = end-stops limited c.args.file c.args.quota text c.in-Err.fault short was.gathers

@@ -12,8 +12,10 @@ keep-requires c =
     let is : c.in-Ok-Some.field-0 ≡ Some c.in-Ok-Some.line = rw c.in-Ok-Some.is at c.in-Ok-Some.field-0-is in
     let answer = rw (c.in-Ok-Some.is, is) at c.bytes-count.ensures.answer in
     let ranged = rw (c.in-Ok-Some.is, is) at c.bytes-count.ensures.ranges in
-    record { tests = line-tests at.limited c.args.file.now c.args.quota.now at.text (at.text ++ bytes) line at.reads.gathers
-        (answer at.text at.short at.reads.stands).1 ranged }
+    record {
+      tests = line-tests at.limited c.args.file.now c.args.quota.now at.text (at.text ++ bytes) line at.reads.gathers
+          (answer at.text at.short at.reads.stands).1 ranged;
+    }
 
 pub returns-in-Ok-clause-ok : goal.returns-in-Ok-clause-ok
 returns-in-Ok-clause-ok c limited text short was =
@@ -23,7 +25,7 @@ returns-in-Ok-clause-ok c limited text short was =
     let answer = rw (c.in-Ok-Some.is, is) at c.bytes-count.ensures.answer in
     let ranged = rw (c.in-Ok-Some.is, is) at c.bytes-count.ensures.ranges in
     reads-line limited _ _ _ _ _ _ text (text ++ bytes) line was (c.bytes-count.ensures.after text short was.stands) (answer text short was.stands).0
-        (answer text short was.stands).1 c.in-Ok.ensures.ok ranged
+    (answer text short was.stands).1 c.in-Ok.ensures.ok ranged
 
 pub returns-in-Err-keep-clause-err : goal.returns-in-Err-keep-clause-err
 returns-in-Err-keep-clause-err c =
@@ -34,8 +36,8 @@ returns-in-Err-keep-clause-err c =
     let is : c.in-Ok-Some.field-0 ≡ Some c.in-Ok-Some.line = rw c.in-Ok-Some.is at c.in-Ok-Some.field-0-is in
     let answer = rw (c.in-Ok-Some.is, is) at c.bytes-count.ensures.answer in
     IsInputStop-weaker s _ _ (λ passes limited text short was. front-stops limited text more n s
-        (line-stops limited c.args.file.now c.args.quota.now text (text ++ take n more) line s was.gathers (answer text short was.stands).1 passes))
-        c.in-Err-keep.ensures.err
+    (line-stops limited c.args.file.now c.args.quota.now text (text ++ take n more) line s was.gathers (answer text short was.stands).1 passes))
+    c.in-Err-keep.ensures.err
 
 pub returns-in-Err-clause-err : goal.returns-in-Err-clause-err
 returns-in-Err-clause-err c limited text short was =
@@ -44,4 +46,4 @@ returns-in-Err-clause-err c limited text short was =
     let answer = rw c.in-Err.is at c.bytes-count.ensures.answer in
     let found = answer text short was.stands in
     front-stops limited text more n _ (fault-stops limited c.args.file.now c.args.quota.now text (text ++ take n more) c.in-Err.fault was.gathers
-        found.1 found.0)
+    found.1 found.0)

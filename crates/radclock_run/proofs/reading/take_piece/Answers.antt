@@ -13,7 +13,7 @@ take_line-requires c =
     let piece = c.args.piece.now in
     let i = c.loop-read.read in
     is-reading at.limited _ _ _ (at.text ++ take i piece) _ (c.loop-read.invariant.reads at.limited at.text at.short at.reads)
-        (omega (arith, at.short, as_long at.text piece i c.loop-read.invariant.within))
+    (omega (arith, at.short, as_long at.text piece i c.loop-read.invariant.within))
 
 pub loop-read-preserved : goal.loop-read-preserved
 loop-read-preserved c =
@@ -32,7 +32,7 @@ pub returns-clause-ok : goal.returns-clause-ok
 returns-clause-ok c limited text short was =
     let piece = c.args.piece.now in
     subst (Reads limited c.loop-read.feed c.loop-read.file c.loop-read.quota)
-        (ap (λ (bs : List ℕ). text ++ bs) (take_all c.loop-read.read piece (omega arith))) (c.loop-read.invariant.reads limited text short was)
+    (ap (λ (bs : List ℕ). text ++ bs) (take_all c.loop-read.read piece (omega arith))) (c.loop-read.invariant.reads limited text short was)
 
 pub returns-in-Err-clause-err : goal.returns-in-Err-clause-err
 returns-in-Err-clause-err c =
@@ -40,5 +40,5 @@ returns-in-Err-clause-err c =
     let i = c.loop-read.read in
     let s = c.in-Err.stop in
     IsInputStop-weaker s _ _ (λ stops limited text short was. ap (stop_within limited) (sym (all_read text piece i))
-        ∙ stops limited (text ++ take i piece) (omega (arith, as_long text piece i c.loop-read.invariant.within))
-        (c.loop-read.invariant.reads limited text short was)) c.in-Err.ensures.err
+    ∙ stops limited (text ++ take i piece) (omega (arith, as_long text piece i c.loop-read.invariant.within))
+    (c.loop-read.invariant.reads limited text short was)) c.in-Err.ensures.err

@@ -13,6 +13,6 @@ returns-clause-ready c =
     let room : length plan.steps.items ≤ c.reserve.new.self.spare = omega (arith, c.len.ensures, c.in_ok-reserve.ensures.room, plan.steps.ok.0) in
     let unused = c.is_fresh.ensures.unused (c.is_fresh.ensures.exact c.requires.fresh) in
     IfOk-weaker c.all.result _ _ (λ logs opened freq options all is. ready-for freq options all plan logs.items c.args.desk.now.pen
-        c.reserve.new.self c.all.new.desk.pen c.args.desk.now.passes.items c.passes.new.self.passes.items _ _ c.requires.fresh unused is room
-        c.reserve.ensures.kept (c.all.ensures.pen ∙ c.in_ok-passes.ensures.made) c.in_ok-passes.ensures.passes opened)
+    c.reserve.new.self c.all.new.desk.pen c.args.desk.now.passes.items c.passes.new.self.passes.items _ _ c.requires.fresh unused is room
+    c.reserve.ensures.kept (c.all.ensures.pen ∙ c.in_ok-passes.ensures.made) c.in_ok-passes.ensures.passes opened)
     c.all.ensures.opened

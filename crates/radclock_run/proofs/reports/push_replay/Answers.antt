@@ -48,10 +48,10 @@ returns g c =
     let mid = c.push_logs.new.sink in
     let piece = end_text (end tally.accepted tally.refused c.args.entries) in
     let last = writes_last _ _ _ mid mid c.end_line.new.sink [] piece c.end_line.result (sink.appends _ _ _ _ once) (sink.cause _ _ _ _ once)
-        (wrote_nothing _ _ _ _) once in
+    (wrote_nothing _ _ _ _) once in
     let whole = writes-on _ _ _ c.args.sink.now mid c.end_line.new.sink front (piece ∷ []) c.end_line.result three last in
     let same : piece ≡ end_text (end (count_by is_taken q) (refused_in q) (entries_in logs)) = ap
-        (λ a. end_text (end a tally.refused c.args.entries)) counts.accepted
-        ∙ ap (λ r. end_text (end (count_by is_taken q) r c.args.entries)) counts.refused
-        ∙ ap (λ n. end_text (end (count_by is_taken q) (refused_in q) n)) c.requires.entries in
+    (λ a. end_text (end a tally.refused c.args.entries)) counts.accepted
+    ∙ ap (λ r. end_text (end (count_by is_taken q) r c.args.entries)) counts.refused
+    ∙ ap (λ n. end_text (end (count_by is_taken q) (refused_in q) n)) c.requires.entries in
     subst (λ e. Writes g.K.Sink.written g.K.Sink.faults g.K.Sink.push_gives c.args.sink.now (front ++ e ∷ []) c.end_line.result c.end_line.new.sink) same whole

@@ -27,9 +27,9 @@ returns g c =
     let told = told_text c.args.head.now (g.T.Telling.says c.args.file.now.head) q in
     let end : ℕ → ℕ → EndCounts = λ a r. record { accepted = a; refused = r; ticks = None; entries = None } in
     let last = writes_last _ _ _ c.push_told.new.sink c.push_told.new.sink c.end_line.new.sink [] (end_text (end tally.accepted tally.refused))
-        c.end_line.result (sink.appends _ _ _ _ once) (sink.cause _ _ _ _ once) (wrote_nothing _ _ _ _) once in
+    c.end_line.result (sink.appends _ _ _ _ once) (sink.cause _ _ _ _ once) (wrote_nothing _ _ _ _) once in
     let whole = writes-on _ _ _ c.args.sink.now c.push_told.new.sink c.end_line.new.sink told (end_text (end tally.accepted tally.refused) ∷ [])
-        c.end_line.result c.in_ok-tally.ensures.lines last in
+    c.end_line.result c.in_ok-tally.ensures.lines last in
     let same : end_text (end tally.accepted tally.refused) ≡ end_text (end (count_by is_taken q) (refused_in q)) = ap
-        (λ a. end_text (end a tally.refused)) counts.accepted ∙ ap (λ r. end_text (end (count_by is_taken q) r)) counts.refused in
+    (λ a. end_text (end a tally.refused)) counts.accepted ∙ ap (λ r. end_text (end (count_by is_taken q) r)) counts.refused in
     subst (λ e. Writes g.K.Sink.written g.K.Sink.faults g.K.Sink.push_gives c.args.sink.now (told ++ e ∷ []) c.end_line.result c.end_line.new.sink) same whole

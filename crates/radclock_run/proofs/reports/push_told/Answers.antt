@@ -15,8 +15,17 @@ use Rattle.radclock_run.proofs.reports.push_told.Goals as goal
 
 -- the item that stands for none
 none : ItemLine
-none = record { line = 0; item = item.Stamp (record { ta = 0; tb = record { sec = pos 0; frac = 0 }; te = record { sec = pos 0; frac = 0 }; tf = 0;
-    stratum = 0; leap = 0 }) }
+none = record {
+  line = 0;
+  item = item.Stamp (record {
+    ta = 0;
+    tb = record { sec = pos 0; frac = 0 };
+    te = record { sec = pos 0; frac = 0 };
+    tf = 0;
+    stratum = 0;
+    leap = 0;
+  });
+}
 
 pub returns-in_err-head_line-clause-lines : goal.returns-in_err-head_line-clause-lines
 returns-in_err-head_line-clause-lines g c =
@@ -60,16 +69,16 @@ returns-in_err-push_item-clause-lines g c =
     let later = accepted_with pr.accepted x.item answer in
     let rest = told says later (outcomes freq later (drop (i + 1) items)) in
     let next : told_text c.args.head.now says (outcomes freq [] items) ≡ pr.front ++ (line ∷ rest) = pr.lines
-        ∙ ap (λ (ls : List (List ℕ)). pr.front ++ ls) (lines-next says freq pr.accepted items i none c.loop-x-test.true) in
+    ∙ ap (λ (ls : List (List ℕ)). pr.front ++ ls) (lines-next says freq pr.accepted items i none c.loop-x-test.true) in
     let stopped = broke _ _ _ c.args.sink.now c.loop-x.sink c.push_item.new.sink pr.front line rest (sink.appends _ _ _ _ once)
-        (sink.cause _ _ _ _ once) pr.wrote once in
+    (sink.cause _ _ _ _ once) pr.wrote once in
     let here : Broke g.K.Sink.written g.K.Sink.faults g.K.Sink.push_gives c.args.sink.now (told_text c.args.head.now says (outcomes freq [] items))
-        c.push_item.new.sink = subst (λ ls. Broke g.K.Sink.written g.K.Sink.faults g.K.Sink.push_gives c.args.sink.now ls c.push_item.new.sink)
-        (sym next) stopped in
+    c.push_item.new.sink = subst (λ ls. Broke g.K.Sink.written g.K.Sink.faults g.K.Sink.push_gives c.args.sink.now ls c.push_item.new.sink)
+    (sym next) stopped in
     let told : Broke g.K.Sink.written g.K.Sink.faults g.K.Sink.push_gives c.args.sink.now
-        (told_text c.args.head.now says (outcomes freq [] c.args.file.now.items.items)) c.push_item.new.sink =
-        subst (λ xs. Broke g.K.Sink.written g.K.Sink.faults g.K.Sink.push_gives c.args.sink.now
-        (told_text c.args.head.now says (outcomes freq [] xs)) c.push_item.new.sink) c.deref-x-items.ensures.value here in
+    (told_text c.args.head.now says (outcomes freq [] c.args.file.now.items.items)) c.push_item.new.sink =
+    subst (λ xs. Broke g.K.Sink.written g.K.Sink.faults g.K.Sink.push_gives c.args.sink.now
+    (told_text c.args.head.now says (outcomes freq [] xs)) c.push_item.new.sink) c.deref-x-items.ensures.value here in
     rw p.1 told
 
 pub loop-x-preserved : goal.loop-x-preserved
@@ -115,11 +124,11 @@ returns-clause-lines g c =
     let items = c.deref-x-items.result.now in
     let ended : length items ≤ c.loop-x.x-index = omega arith in
     let whole : pr.front ≡ told_text c.args.head.now says (outcomes freq [] items) = lines-done says freq pr.accepted items c.loop-x.x-index _
-        pr.front ended pr.lines in
+    pr.front ended pr.lines in
     let here : Wrote g.K.Sink.written g.K.Sink.faults g.K.Sink.push_gives c.args.sink.now (told_text c.args.head.now says (outcomes freq [] items))
-        c.loop-x.sink = subst (λ ls. Wrote g.K.Sink.written g.K.Sink.faults g.K.Sink.push_gives c.args.sink.now ls c.loop-x.sink) whole pr.wrote in
+    c.loop-x.sink = subst (λ ls. Wrote g.K.Sink.written g.K.Sink.faults g.K.Sink.push_gives c.args.sink.now ls c.loop-x.sink) whole pr.wrote in
     subst (λ xs. Wrote g.K.Sink.written g.K.Sink.faults g.K.Sink.push_gives c.args.sink.now (told_text c.args.head.now says (outcomes freq [] xs))
-        c.loop-x.sink) c.deref-x-items.ensures.value here
+    c.loop-x.sink) c.deref-x-items.ensures.value here
 
 pub returns-clause-counts : goal.returns-clause-counts
 returns-clause-counts g c =

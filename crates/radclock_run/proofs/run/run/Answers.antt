@@ -15,7 +15,7 @@ returns-in-Ok-Some-Make g c =
     let line = c.in-Ok-Some-Make in
     let is = sym line.ensures.value ∙ line.field-0-is ∙ ap (λ x. Some x) line.field-0-0-is in
     subst (λ (asked : Option Command). Ran g.S.Source.pull_gives (ByLines g.K.Sink.push_gives) asked c.args.source.now c.args.source.now
-        c.args.sink.now c.make.new.sink c.args.desk.now c.args.desk.now c.make.result) (sym is)
+    c.args.sink.now c.make.new.sink c.args.desk.now c.args.desk.now c.make.result) (sym is)
     (run-made g.S.Source.pull_gives g.K.Sink.written g.K.Sink.faults g.K.Sink.push_gives line.number line.count _ _ _ _ _ c.make.ensures)
 
 pub returns-in-Ok-Some-Run : goal.returns-in-Ok-Some-Run
@@ -23,15 +23,15 @@ returns-in-Ok-Some-Run g c =
     let line = c.in-Ok-Some-Run in
     let is = sym line.ensures.value ∙ line.field-0-is ∙ ap (λ x. Some x) line.field-0-0-is in
     subst (λ (asked : Option Command). Ran g.S.Source.pull_gives (ByLines g.K.Sink.push_gives) asked c.args.source.now c.args.source.now
-        c.args.sink.now c.run_made.new.sink c.args.desk.now c.run_made.new.desk c.run_made.result) (sym is)
+    c.args.sink.now c.run_made.new.sink c.args.desk.now c.run_made.new.desk c.run_made.result) (sym is)
     (run-summarised g.S.Source.pull_gives g.K.Sink.written g.K.Sink.faults g.K.Sink.push_gives
-        (record { number = line.number; count = line.count; ideal = line.ideal }) _ _ _ _ _ _ c.requires.fresh.journal c.run_made.ensures)
+    (record { number = line.number; count = line.count; ideal = line.ideal }) _ _ _ _ _ _ c.requires.fresh.journal c.run_made.ensures)
 
 pub returns-in-Ok-None : goal.returns-in-Ok-None
 returns-in-Ok-None g c =
     let is = sym c.in-Ok-None.ensures.value ∙ c.in-Ok-None.field-0-is in
     subst (λ (asked : Option Command). Ran g.S.Source.pull_gives (ByLines g.K.Sink.push_gives) asked c.args.source.now c.args.source.now
-        c.args.sink.now c.refuse.new.sink c.args.desk.now c.args.desk.now c.refuse.result) (sym is)
+    c.args.sink.now c.refuse.new.sink c.args.desk.now c.args.desk.now c.refuse.result) (sym is)
     (run-no-line g.S.Source.pull_gives g.K.Sink.written g.K.Sink.faults g.K.Sink.push_gives _ _ _ _ _ c.refuse.ensures)
 
 pub returns-in-Err : goal.returns-in-Err
@@ -47,13 +47,13 @@ returns-in-Ok g c =
     let ok = c.in-Ok.ensures.ok in
     let few : c.takes_few.result ≡ takes_few asked = c.takes_few.ensures in
     let finishes : Head → List ItemLine → Type 0 = λ head items. Finishes g.K.Sink.written g.K.Sink.faults g.K.Sink.push_gives asked head items
-        c.args.sink.now c.args.desk.now c.finish.result c.finish.new.sink c.finish.new.desk in
+    c.args.sink.now c.args.desk.now c.finish.result c.finish.new.sink c.finish.new.desk in
     let told : finishes (head_of_file ok.0) (items_of_file ok.0) = subst (finishes (head_of_file ok.0)) ok.2.items
-        (subst (λ head. finishes head file.items.items) ok.2.head c.finish.ensures) in
+    (subst (λ head. finishes head file.items.items) ok.2.head c.finish.ensures) in
     let reads = subst (λ few. ReadsTo g.S.Source.pull_gives few c.args.source.now ok.0 None c.read_file.new.source) few ok.1 in
     let none = subst (λ few. stop_of_file few ok.0 ≡ None) few ok.2.sound in
     subst (λ (asked : Option Command). Ran g.S.Source.pull_gives (ByLines g.K.Sink.push_gives) asked c.args.source.now c.read_file.new.source
-        c.args.sink.now c.finish.new.sink c.args.desk.now c.finish.new.desk c.finish.result) (sym is)
+    c.args.sink.now c.finish.new.sink c.args.desk.now c.finish.new.desk c.finish.result) (sym is)
     (run-finished g.S.Source.pull_gives g.K.Sink.written g.K.Sink.faults g.K.Sink.push_gives asked ok.0 _ _ _ _ _ _ _ c.requires.fresh.journal reads none told)
 
 pub returns-in-Err-read_file : goal.returns-in-Err-read_file
@@ -64,9 +64,9 @@ returns-in-Err-read_file g c =
     let err = c.in-Err-read_file.ensures.err in
     let reads = subst (λ few. ReadsTo g.S.Source.pull_gives few c.args.source.now err.0 (Some s) c.read_file.new.source) c.takes_few.ensures err.1 in
     let ends : EndsWith g.K.Sink.written g.K.Sink.faults g.K.Sink.push_gives c.args.sink.now (fault_text (fault_of s) ∷ []) (status_of s)
-        c.refuse-in-Err-read_file.result c.refuse-in-Err-read_file.new.sink =
-        rw (← c.status_of.ensures, ← c.fault_of.ensures) c.refuse-in-Err-read_file.ensures in
+    c.refuse-in-Err-read_file.result c.refuse-in-Err-read_file.new.sink =
+    rw (← c.status_of.ensures, ← c.fault_of.ensures) c.refuse-in-Err-read_file.ensures in
     subst (λ (asked : Option Command). Ran g.S.Source.pull_gives (ByLines g.K.Sink.push_gives) asked c.args.source.now c.read_file.new.source
-        c.args.sink.now c.refuse-in-Err-read_file.new.sink c.args.desk.now c.args.desk.now c.refuse-in-Err-read_file.result) (sym is)
+    c.args.sink.now c.refuse-in-Err-read_file.new.sink c.args.desk.now c.args.desk.now c.refuse-in-Err-read_file.result) (sym is)
     (run-stopped g.S.Source.pull_gives g.K.Sink.written g.K.Sink.faults g.K.Sink.push_gives line.asked s err.0 _ _ _ _ _ _ c.requires.fresh.journal
-        reads err.2 ends)
+    reads err.2 ends)

@@ -22,7 +22,7 @@ returns-in_err-push_journal g c =
     let p = err_from_is_err_and c.from_residual-in_err-push_journal.result c.from_residual-in_err-push_journal.ensures.1 in
     let head = wrote_more _ _ _ _ _ _ [] (head_text c.args.head.now) (sink.appends _ _ _ _ once) (sink.cause _ _ _ _ once) (wrote_nothing _ _ _ _) once in
     rw p.1 (broke-early _ _ _ _ _ _ _ (broke-on _ _ _ _ _ _ (head_text c.args.head.now ∷ []) (tick_lines 0 c.args.ticks.now) head
-        c.in_err-push_journal.ensures))
+    c.in_err-push_journal.ensures))
 
 pub returns : goal.returns
 unfolding ticks_text
@@ -33,4 +33,4 @@ returns g c =
     let lines = wrote-on _ _ _ _ _ _ (head_text c.args.head.now ∷ []) (tick_lines 0 c.args.ticks.now) head c.in_ok-push_journal.ensures in
     let last = c.end_line.ensures in
     writes_last _ _ _ c.args.sink.now c.push_journal.new.sink c.end_line.new.sink (head_text c.args.head.now ∷ tick_lines 0 c.args.ticks.now)
-        (end_text c.args.counts.now) c.end_line.result (sink.appends _ _ _ _ last) (sink.cause _ _ _ _ last) lines last
+    (end_text c.args.counts.now) c.end_line.result (sink.appends _ _ _ _ last) (sink.cause _ _ _ _ last) lines last

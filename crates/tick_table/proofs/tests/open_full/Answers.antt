@@ -9,5 +9,5 @@ pub returns-clause-over : goal.returns-clause-over
 returns-clause-over c odd = let over : is_even c.open_call.result ≡ false = ap (λ k. k == 0) odd in let start : Bool
     → Scan = λ even. opened (not even) (record { kind = Abs; given = 0 }) c.open_call.result in
     ap (λ (v : PassView). v.entries) c.open_call.ensures.view ∙ (ap
-        (λ even. gained c.args.pass.now.view.entries (start even).answer (start even).first) over
-        ∙ ap (λ log. gained log (start false).answer (start false).first) c.requires.first)
+    (λ even. gained c.args.pass.now.view.entries (start even).answer (start even).first) over
+    ∙ ap (λ log. gained log (start false).answer (start false).first) c.requires.first)

@@ -10,5 +10,5 @@ pub returns : goal.returns
 returns c given e =
     let found = found_of c.self.inside.matches in
     flag_told given _ _ (one_text-rows found c.args.name.now ∙ text_found c.args.name.now (flag_text given) (rows_of found) c.self.invariant
-        (flag_plain given) (ap (value_of c.args.name.now) c.self.view_is ∙ e))
+    (flag_plain given) (ap (value_of c.args.name.now) c.self.view_is ∙ e))
     c.get_flag.ensures.value c.get_flag.ensures.other

@@ -17,4 +17,4 @@ pub returns-clause-stands : goal.returns-clause-stands
 returns-clause-stands g c =
     let s = c.args.stamp.now in
     on-ok c.base_line.result _ (λ head accepted many stood answer. subst (StandsFor c.add-base.new.self head.freq)
-        (sym (stamps-push accepted (item.Stamp s))) (c.add-base.ensures.stands head.freq (stamps_of accepted) stood))
+    (sym (stamps-push accepted (item.Stamp s))) (c.add-base.ensures.stands head.freq (stamps_of accepted) stood))

@@ -19,8 +19,10 @@ loop-i-preserved c =
     ]
 
 pub push_between-requires : goal.push_between-requires
-push_between-requires c = record { order = counts-rise c.args.freq c.args.events.now c.requires.of.0 c.loop-i.i c.count_of.result _
-    c.event_step-step.result c.requires.low c.requires.of.1 c.if-i-events.true c.event_step-step.ensures c.count_of.ensures }
+push_between-requires c = record {
+  order = counts-rise c.args.freq c.args.events.now c.requires.of.0 c.loop-i.i c.count_of.result _
+      c.event_step-step.result c.requires.low c.requires.of.1 c.if-i-events.true c.event_step-step.ensures c.count_of.ensures;
+}
 
 pub returns-clause-fits : goal.returns-clause-fits
 returns-clause-fits c = subst (PlanFits 0 0) (sym (taken-all _ _ c.args.freq c.args.events.now c.loop-i.i _ c.loop-i.invariant (omega arith)))

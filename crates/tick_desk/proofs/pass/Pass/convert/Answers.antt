@@ -19,8 +19,13 @@ returns-in-Some c =
     (c.in-Some.ensures.table ∙ (c.open_call-first.ensures.table ∙ ap (λ (z : PassSees). z.table) c.self.view_is)) c.in-Some.ensures.some c.in-Some.ensures.by
 
 pub loop-down-init : goal.loop-down-init
-loop-down-init c = record { table = refl; near = let some = c.in_default.ensures.more refl in omega arith; few = omega arith;
-    slot = let some = c.in_default.ensures.more refl in omega arith; down = down_here _ _ _ _ _ (c.in_default.ensures.none refl) }
+loop-down-init c = record {
+  table = refl;
+  near = let some = c.in_default.ensures.more refl in omega arith;
+  few = omega arith;
+  slot = let some = c.in_default.ensures.more refl in omega arith;
+  down = down_here _ _ _ _ _ (c.in_default.ensures.none refl);
+}
 
 pub loop-down-preserved : goal.loop-down-preserved
 loop-down-preserved c = let i = c.loop-down.invariant in let n = c.in_default-look_older.ensures in let some = n.more refl in let near = n.nearer refl in
@@ -41,6 +46,6 @@ returns-in-Some-look_older c =
     (subst (λ (z : PassSees). LearnsTurn z.view w) c.self.view_is c.open_call-first.ensures.learns)
     (ap (λ (v : PassView). (scan_of v).answer) is)
     (c.in-Some-look_older.ensures.table ∙ (c.loop-down.invariant.table
-        ∙ (c.in_default.ensures.table ∙ (c.open_call-first.ensures.table ∙ ap (λ (z : PassSees). z.table) c.self.view_is))))
+    ∙ (c.in_default.ensures.table ∙ (c.open_call-first.ensures.table ∙ ap (λ (z : PassSees). z.table) c.self.view_is))))
     (down_answers _ _ _ _ _ _ _ (c.in_default.ensures.none refl)
-        (down_answers _ _ _ _ _ _ _ c.loop-down.invariant.down c.in-Some-look_older.ensures.some)) c.in-Some-look_older.ensures.by
+    (down_answers _ _ _ _ _ _ _ c.loop-down.invariant.down c.in-Some-look_older.ensures.some)) c.in-Some-look_older.ensures.by

@@ -15,4 +15,4 @@ returns-clause-adds c =
     (subst (λ (z : PassSees). LearnsTurn z.view w) c.self.view_is c.open_call-first.ensures.learns)
     (ap (λ (v : PassView). (scan_of v).answer) is)
     (c.finish_quick.ensures.table ∙ (c.open_call-first.ensures.table ∙ ap (λ (z : PassSees). z.table) c.self.view_is)) c.finish_quick.ensures.answers
-        c.finish_quick.ensures.by
+    c.finish_quick.ensures.by

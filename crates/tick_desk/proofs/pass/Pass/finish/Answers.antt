@@ -13,7 +13,7 @@ returns-in-Fast-clause-finishes c =
     let fast = sym kind ∙ c.in-Fast.is in
     let view = c.finish_quick.new.self.view in
     rest_of c.args.begun c.args.self.now c.finish_quick.new.self (entry_by c.args.begun.kind c.finish_quick.result) begun c.requires
-        (quick_yet c.args.begun c.args.self.now begun c.requires (ap way_of fast)) c.finish_quick.ensures.table
+    (quick_yet c.args.begun c.args.self.now begun c.requires (ap way_of fast)) c.finish_quick.ensures.table
     (subst (λ k. Answers c.args.self.now.view view (entry_by k c.finish_quick.result)) kind c.finish_quick.ensures.answers)
     (subst (λ k. IsEntryBy (hands_of view) (entry_by k c.finish_quick.result)) kind c.finish_quick.ensures.by)
 

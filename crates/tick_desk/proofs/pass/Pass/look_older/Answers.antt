@@ -20,33 +20,33 @@ pub returns-then-hands-count-clause-some : goal.returns-then-hands-count-clause-
 returns-then-hands-count-clause-some c = let g = from_inside c.args.self.now c.self.inside.seat _ _ c.self.view_is c.look_at-seen.ensures.loads in
     let older : c.args.tick ≢ c.args.first / 2 = λ e. let less : c.args.tick < c.args.first / 2 = c.requires.older in omega arith in
     elim c.then-hands-count.branch [
-  | then-hands-count-via-then-hands-count w ↦ look_older_read _ _ c.args.count c.args.first c.args.tick c.look_at-seen.result.fields
-      c.look_at-seen.result.mark c.requires.at g c.look_at-seen.ensures.long c.if-seen-tick.false c.unpack-hands.result c.unpack-hands.ensures
-      c.reading.result c.reading.ensures w.if-hands-count.true older
-  | then-hands-count-via-else-hands-count+then-tick-eq0 w ↦ look_zero_read _ _ c.args.count c.args.first c.args.tick c.look_at-seen.result.fields
-      c.look_at-seen.result.mark c.requires.at g c.look_at-seen.ensures.long c.if-seen-tick.false c.unpack-hands.result c.unpack-hands.ensures
-      c.reading.result c.reading.ensures w.if-hands-count.false w.if-tick-eq0.true
-]
+      | then-hands-count-via-then-hands-count w ↦ look_older_read _ _ c.args.count c.args.first c.args.tick c.look_at-seen.result.fields
+          c.look_at-seen.result.mark c.requires.at g c.look_at-seen.ensures.long c.if-seen-tick.false c.unpack-hands.result c.unpack-hands.ensures
+          c.reading.result c.reading.ensures w.if-hands-count.true older
+      | then-hands-count-via-else-hands-count+then-tick-eq0 w ↦ look_zero_read _ _ c.args.count c.args.first c.args.tick c.look_at-seen.result.fields
+          c.look_at-seen.result.mark c.requires.at g c.look_at-seen.ensures.long c.if-seen-tick.false c.unpack-hands.result c.unpack-hands.ensures
+          c.reading.result c.reading.ensures w.if-hands-count.false w.if-tick-eq0.true
+    ]
 
 pub returns-then-hands-count-clause-by : goal.returns-then-hands-count-clause-by
 returns-then-hands-count-clause-by c = let g = from_inside c.args.self.now c.self.inside.seat _ _ c.self.view_is c.look_at-seen.ensures.loads in
     let older : c.args.tick ≢ c.args.first / 2 = λ e. let less : c.args.tick < c.args.first / 2 = c.requires.older in omega arith in
     elim c.then-hands-count.branch [
-  | then-hands-count-via-then-hands-count w ↦ by_it c.look_at-seen.new.seat.view _ _ kind.Back c.args.tick c.args.count c.reading.result
-      (look_older_fields _ _ c.args.count c.args.first c.args.tick c.look_at-seen.result.fields c.look_at-seen.result.mark c.requires.at g
-      c.look_at-seen.ensures.long c.if-seen-tick.false c.unpack-hands.result c.unpack-hands.ensures w.if-hands-count.true older)
-      c.unpack-hands.ensures (look_stands _ _ c.args.count c.args.first c.args.tick c.look_at-seen.result.fields c.look_at-seen.result.mark
-      c.requires.at g c.look_at-seen.ensures.long (c.look_at-seen.ensures.hands c.if-seen-tick.false) c.unpack-hands.result c.unpack-hands.ensures)
-      (omega (arith, w.if-hands-count.true)) c.requires.most c.reading.ensures
-  | then-hands-count-via-else-hands-count+then-tick-eq0 w ↦ by_it c.look_at-seen.new.seat.view _ _ kind.Back c.args.tick c.args.count
-      c.reading.result (look_zero_fields _ _ c.args.count c.args.first c.args.tick c.look_at-seen.result.fields c.look_at-seen.result.mark
-      c.requires.at g c.look_at-seen.ensures.long c.if-seen-tick.false c.unpack-hands.result c.unpack-hands.ensures w.if-hands-count.false
-      w.if-tick-eq0.true) c.unpack-hands.ensures (look_stands _ _ c.args.count c.args.first c.args.tick c.look_at-seen.result.fields
-      c.look_at-seen.result.mark c.requires.at g c.look_at-seen.ensures.long (c.look_at-seen.ensures.hands c.if-seen-tick.false)
-      c.unpack-hands.result c.unpack-hands.ensures) (zero_past _ _ c.args.count c.args.first c.args.tick c.look_at-seen.result.fields
-      c.look_at-seen.result.mark c.requires.at g c.look_at-seen.ensures.long (c.look_at-seen.ensures.hands c.if-seen-tick.false)
-      c.unpack-hands.result c.unpack-hands.ensures w.if-tick-eq0.true) c.requires.most c.reading.ensures
-]
+      | then-hands-count-via-then-hands-count w ↦ by_it c.look_at-seen.new.seat.view _ _ kind.Back c.args.tick c.args.count c.reading.result
+          (look_older_fields _ _ c.args.count c.args.first c.args.tick c.look_at-seen.result.fields c.look_at-seen.result.mark c.requires.at g
+          c.look_at-seen.ensures.long c.if-seen-tick.false c.unpack-hands.result c.unpack-hands.ensures w.if-hands-count.true older)
+          c.unpack-hands.ensures (look_stands _ _ c.args.count c.args.first c.args.tick c.look_at-seen.result.fields c.look_at-seen.result.mark
+          c.requires.at g c.look_at-seen.ensures.long (c.look_at-seen.ensures.hands c.if-seen-tick.false) c.unpack-hands.result c.unpack-hands.ensures)
+          (omega (arith, w.if-hands-count.true)) c.requires.most c.reading.ensures
+      | then-hands-count-via-else-hands-count+then-tick-eq0 w ↦ by_it c.look_at-seen.new.seat.view _ _ kind.Back c.args.tick c.args.count
+          c.reading.result (look_zero_fields _ _ c.args.count c.args.first c.args.tick c.look_at-seen.result.fields c.look_at-seen.result.mark
+          c.requires.at g c.look_at-seen.ensures.long c.if-seen-tick.false c.unpack-hands.result c.unpack-hands.ensures w.if-hands-count.false
+          w.if-tick-eq0.true) c.unpack-hands.ensures (look_stands _ _ c.args.count c.args.first c.args.tick c.look_at-seen.result.fields
+          c.look_at-seen.result.mark c.requires.at g c.look_at-seen.ensures.long (c.look_at-seen.ensures.hands c.if-seen-tick.false)
+          c.unpack-hands.result c.unpack-hands.ensures) (zero_past _ _ c.args.count c.args.first c.args.tick c.look_at-seen.result.fields
+          c.look_at-seen.result.mark c.requires.at g c.look_at-seen.ensures.long (c.look_at-seen.ensures.hands c.if-seen-tick.false)
+          c.unpack-hands.result c.unpack-hands.ensures w.if-tick-eq0.true) c.requires.most c.reading.ensures
+    ]
 
 pub returns-then-tick-first-clause-some : goal.returns-then-tick-first-clause-some
 returns-then-tick-first-clause-some c = let g = from_inside c.args.self.now c.self.inside.seat _ _ c.self.view_is c.look_at-seen.ensures.loads in

@@ -18,5 +18,10 @@ returns-clause-fresh c home =
     let out : c.self.inside.out ≡ false = search rules in
     let kept = none-kept c.self.inside.seat.view.kept c.self.inside.made (λ j k e. subst (λ m. k.number < m) i.made_is (i.given j k e)) made in
     subst (λ (s : PenShows). s ≡ new_pen s.table s.spare s.counters s.met) c.self.view_is
-    (λ t. record (the_view c.self.inside) { journal = cold-alone c.self.inside.ticks.items i.legal one t; top = top t; out = out t; made = made t;
-        kept = kept t })
+    (λ t. record (the_view c.self.inside) {
+      journal = cold-alone c.self.inside.ticks.items i.legal one t;
+      top = top t;
+      out = out t;
+      made = made t;
+      kept = kept t;
+    })

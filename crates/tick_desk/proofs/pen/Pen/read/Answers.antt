@@ -24,9 +24,9 @@ pub reading-requires-clause-place : goal.reading-requires-clause-place
 reading-requires-clause-place c =
     let met : IsCounter c.args.self.now c.load_counter-counter.result = subst (λ (s : PenShows). IsCounter s c.load_counter-counter.result) c.self.view_is
     (counter-shown c.self.inside.seat.view (the_view c.self.inside) c.load_counter-counter.result c.self.invariant.journal refl
-        c.self.invariant.top_is c.self.invariant.out_is c.self.invariant.legal c.load_counter-counter.ensures.learns) in
+    c.self.invariant.top_is c.self.invariant.out_is c.self.invariant.legal c.load_counter-counter.ensures.learns) in
     let reached : c.newest-last.result.now.count ≤ c.load_counter-counter.result = subst (λ h. h.count ≤ c.load_counter-counter.result)
-        (ap (λ (s : PenShows). newest s.journal) (sym c.self.view_is) ∙ sym c.newest-last.ensures.value) met.reached in
+    (ap (λ (s : PenShows). newest s.journal) (sym c.self.view_is) ∙ sym c.newest-last.ensures.value) met.reached in
     elim c.match-kind.branch [
       | in-Fast w ↦ subst (λ k. MayRead k c.newest-last.result.now.count c.match-kind.count) (sym w.in-Fast.is) (sym w.count-is)
       | in-Abs w ↦ let is = w.in-Abs.is in let way : way_of c.args.kind ≡ full = search rules in
@@ -42,15 +42,23 @@ returns c =
           ∙ sym (count_full c.args.kind c.newest-last.result.now.count counter way)
     ] in
     let many : c.len.result ≡ length c.self.inside.ticks.items = search rules in
-    subst (λ (s : PenShows). ReadsNewest s (the_view record { seat = c.load_counter-counter.new.self; ticks = c.self.inside.ticks;
-        top = c.self.inside.top; out = c.self.inside.out; made = c.self.inside.made }) c.args.kind c.reading.result) c.self.view_is
+    subst (λ (s : PenShows). ReadsNewest s (the_view record {
+      seat = c.load_counter-counter.new.self;
+      ticks = c.self.inside.ticks;
+      top = c.self.inside.top;
+      out = c.self.inside.out;
+      made = c.self.inside.made;
+    }) c.args.kind c.reading.result) c.self.view_is
     record {
       counter = counter;
       counter_is = counter-shown c.self.inside.seat.view (the_view c.self.inside) counter c.self.invariant.journal refl c.self.invariant.top_is
           c.self.invariant.out_is c.self.invariant.legal c.load_counter-counter.ensures.learns;
       reading = reading_newest c.self.inside.ticks.items c.newest-last.result.now c.args.kind c.len.result c.match-kind.count counter
           c.reading.result c.newest-last.ensures.value many at c.reading.ensures;
-      after = λ i. record (the_view c.self.inside) { table = c.load_counter-counter.ensures.table i;
-          counters = (c.load_counter-counter.ensures.view i).counters; met = (c.load_counter-counter.ensures.view i).met;
-          kept = (c.load_counter-counter.ensures.view i).kept };
+      after = λ i. record (the_view c.self.inside) {
+        table = c.load_counter-counter.ensures.table i;
+        counters = (c.load_counter-counter.ensures.view i).counters;
+        met = (c.load_counter-counter.ensures.view i).met;
+        kept = (c.load_counter-counter.ensures.view i).kept;
+      };
     }

@@ -9,7 +9,7 @@ use Rattle.tick_desk.proofs.pen.Pen.take_in.Goals as goal
 pub returns-clause-legal : goal.returns-clause-legal
 returns-clause-legal c =
     let legal = taken-legal c.self.inside.seat.view c.join_pass.new.self.view c.pass.inside.seat.view c.self.inside.ticks.items c.self.inside.top
-        c.self.inside.out c.self.inside.made c.self.invariant c.join_pass.ensures.view c.load_turn.ensures.legal in
+    c.self.inside.out c.self.inside.made c.self.invariant c.join_pass.ensures.view c.load_turn.ensures.legal in
     subst (λ (p : PassSees). IsKeptLegal c.args.self.now.journal c.args.self.now.top c.args.self.now.out (kept_of p.view)) c.pass.view_is
     (subst (λ (s : PenShows). IsKeptLegal s.journal s.top s.out (kept_of c.pass.inside.seat.view)) c.self.view_is legal)
 
@@ -21,5 +21,5 @@ returns-clause-all c i k at =
     let v = c.join_pass.ensures.view in let h = c.self.invariant in
     subst (λ (s : PenShows). IsKeptLegal s.journal s.top s.out k) c.self.view_is
     (each-legal c.join_pass.new.self.view c.self.inside.ticks.items c.self.inside.top c.self.inside.out c.load_turn.new.self.view.kept
-        (ap (λ p. p.journal) v ∙ h.journal) (ap (λ p. p.top) v ∙ h.top_is) (ap (λ p. p.out) v ∙ h.out_is)
-        (ap (λ (s : PenSees). s.view.kept) (sym c.load_turn.ensures.same)) (ap (λ p. p.winding) v ∙ h.closed) c.load_turn.ensures.legal i k at)
+    (ap (λ p. p.journal) v ∙ h.journal) (ap (λ p. p.top) v ∙ h.top_is) (ap (λ p. p.out) v ∙ h.out_is)
+    (ap (λ (s : PenSees). s.view.kept) (sym c.load_turn.ensures.same)) (ap (λ p. p.winding) v ∙ h.closed) c.load_turn.ensures.legal i k at)

@@ -5,6 +5,9 @@ use Rattle.tick_table.proofs.pen.PenSeat.start_mark.Goals as goal
 
 pub store-requires : goal.store-requires
 store-requires c = let i = c.self.invariant in let w : c.deref.result.now.shared.table_id.words ≡ 162 = search rules in let n = c.requires in
-    let tick : c.args.tick ≡ c.self.inside.last + 1 = n.next ∙ (sym (ap (λ v. length v.view.journal) c.self.view_is) ∙ i.ticks) in
-    (search rules, omega arith, marks_at _ _ _ _ c.self.inside.last _ _ i.first i.knows (ap (λ v. v.view.winding) c.self.view_is ∙ n.winding.0)
-        (ap (λ v. v.view.marked) c.self.view_is ∙ n.winding.1) i.ticks (ap mark_at tick) (ap (λ t. 2 * t + 1) tick))
+    let tick : c.args.tick ≡ c.self.inside.last + 1 = n.next ∙ (sym (ap (λ v. length v.view.journal) c.self.view_is) ∙ i.ticks) in (
+      search rules,
+      omega arith,
+      marks_at _ _ _ _ c.self.inside.last _ _ i.first i.knows (ap (λ v. v.view.winding) c.self.view_is ∙ n.winding.0)
+          (ap (λ v. v.view.marked) c.self.view_is ∙ n.winding.1) i.ticks (ap mark_at tick) (ap (λ t. 2 * t + 1) tick),
+    )
