@@ -42,6 +42,10 @@ chosen-bounded i run predicted (Some mean) count few is time spread = by_test (i
     by_test : (b : Bool) → b ≡ is_doubted i run predicted.0 mean.0
         → IsTakenBounded (cond {A = Taken} b (record { time = predicted.0; spread = predicted.1; predicted = true; run = run + 1 })
         (record { time = mean.0; spread = mean.1; predicted = false; run = 0 })) count
-    by_test true e = record { low = is.low; high = is.high; spread = is.spread;
-        run = (let few = (and_parts _ (nat_lt run 32) (sym e)).1 in grind (arith, nat_tests)) }
+    by_test true e = record {
+      low = is.low;
+      high = is.high;
+      spread = is.spread;
+      run = (let few = (and_parts _ (nat_lt run 32) (sym e)).1 in grind (arith, nat_tests));
+    }
     by_test false e = record { low = time.0; high = omega (arith, ints, time.1); spread = omega (arith, spread); run = omega arith }

@@ -97,7 +97,7 @@ pub leap-stands : (k : Kept) (past : Seen) (leaps : Leaps) (freq : ℕ) (items :
 leap-stands k past leaps freq items count leap r h was test passed is leaps-is =
     let same = sym (stamps-push items (item.Leap count leap) ∙ append-nil (stamps_of items)) in
     let here : test_of freq (seen_of items) (item.Leap count leap) ≡ Ok tt = ap (λ (p : Seen). test_of freq p (item.Leap count leap)) (sym was.past)
-        ∙ sym test ∙ passed in
+    ∙ sym test ∙ passed in
     record {
       window = subst (windows.StandsFor k.window freq) same was.window;
       taken = subst (λ (ss : List Stamp). k.taken ≡ taken_before freq ss (length ss)) same was.taken;

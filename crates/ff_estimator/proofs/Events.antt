@@ -40,7 +40,7 @@ events-append freq before [] ys = ap (λ (b : List Item). events_from freq b ys)
 events-append freq before (x ∷ xs) ys =
     let here : List Event = option_to_list (event_behind freq before x) in
     ap (λ (es : List Event). here ++ es) (events-append freq (before ++ x ∷ []) xs ys
-        ∙ ap (λ (b : List Item). events_from freq (before ++ x ∷ []) xs ++ events_from freq b ys) (append_assoc before (x ∷ []) xs))
+    ∙ ap (λ (b : List Item). events_from freq (before ++ x ∷ []) xs ++ events_from freq b ys) (append_assoc before (x ∷ []) xs))
     ∙ sym (append_assoc here (events_from freq (before ++ x ∷ []) xs) (events_from freq (before ++ (x ∷ xs)) ys))
 
 -- one more item
@@ -84,7 +84,7 @@ fold-from freq before (item.Stamp s ∷ xs) =
     let full : Full = without_leaps (full_behind freq before s) in
     let here : fold_of freq (stamps_of mid) ≡ fold_of freq (stamps_of before) ++ full ∷ [] =
     ap (fold_of freq) (stamps-append before (item.Stamp s ∷ [])) ∙ fold_of-push freq (stamps_of before) s
-        ∙ ap (λ (f : Full). fold_of freq (stamps_of before) ++ f ∷ []) (sym (without freq before s)) in
+    ∙ ap (λ (f : Full). fold_of freq (stamps_of before) ++ f ∷ []) (sym (without freq before s)) in
     ap (λ (b : List Item). fold_of freq (stamps_of b)) (sym (append_assoc before (item.Stamp s ∷ []) xs))
     ∙ fold-from freq mid xs
     ∙ ap (λ (fs : List Full). fs ++ rest) here
@@ -146,7 +146,7 @@ each-event P freq before [] are each = λ k d within. absurd (omega arith)
 each-event P freq before (x ∷ xs) are each =
     let whole : AreAcceptedItems freq ((before ++ x ∷ []) ++ xs) = subst (AreAcceptedItems freq) (sym (append_assoc before (x ∷ []) xs)) are in
     one-more P (event_behind freq before x) (events_from freq (before ++ x ∷ []) xs) (each before x (stands freq before xs x whole))
-        (each-event P freq (before ++ x ∷ []) xs whole each)
+    (each-event P freq (before ++ x ∷ []) xs whole each)
 
 pub all-events : (P : Event → Type 0) (freq : ℕ) (items : List Item) → AreAcceptedItems freq items
     → ((front : List Item) (x : Item) → Stands freq front x → IfSome (event_behind freq front x) P) → All P (events_of freq items)
@@ -165,16 +165,20 @@ unfolding full_behind
 behind-sane freq front s low st =
     let stamps : AreAccepted freq (stamps_of front ++ s ∷ []) = subst (AreAccepted freq) (stamps-append front (item.Stamp s ∷ [])) st.stamps in
     leaps-sane (fields_at (leaps_of front) s.tf) (full_at freq (stamps_of front ++ s ∷ []) (length (stamps_of front)))
-        (fields-sane front s.tf st.ranged) (full-sane freq (stamps_of front ++ s ∷ []) (length (stamps_of front)) low stamps
-        (omega (arith, length_push (stamps_of front) s)))
+    (fields-sane front s.tf st.ranged) (full-sane freq (stamps_of front ++ s ∷ []) (length (stamps_of front)) low stamps
+    (omega (arith, length_push (stamps_of front) s)))
 
 -- so is what a set resets to
 pub reset-sane : (at : Bintime) (count freq : ℕ) → 1000000 ≤ freq → IsSetInRange count at → is_sane_estimate (reset_estimate at count freq) ≡ true
 unfolding nominal_period
 reset-sane at count freq low range =
     let most : 9223372036854775808 / freq ≤ 9223372036855 = div-le_of_le-mul freq (omega arith) in
-    sane-from (reset_estimate at count freq) (record { update = range.count; period = omega arith; low = omega (arith, ints, range.at.low);
-        high = omega (arith, ints, range.at.high) }) (omega arith) (inl refl)
+    sane-from (reset_estimate at count freq) (record {
+      update = range.count;
+      period = omega arith;
+      low = omega (arith, ints, range.at.low);
+      high = omega (arith, ints, range.at.high);
+    }) (omega arith) (inl refl)
 
 event-sane : (freq : ℕ) (front : List Item) (x : Item) → 1000000 ≤ freq → Stands freq front x
     → IfSome (event_behind freq front x) (λ e. is_sane (order_of_event freq e) ≡ true)
@@ -232,7 +236,7 @@ estimate-by : (freq : ℕ) (items : List Item) (s : Stamp) (events : List Event)
 estimate-by freq items s events full (Ok o) e timed are is =
     let here : full ≡ full_behind freq items s = cc in
     subst (λ (f : Full). AreOf (events ++ event.Estimate f ∷ []) freq (items ++ item.Stamp s ∷ [])) (sym here)
-        (of-item freq items (item.Stamp s) events timed are e)
+    (of-item freq items (item.Stamp s) events timed are e)
 estimate-by freq items s events full (Err why) e timed are is = absurd (cc)
 
 pub of-estimate : (freq : ℕ) (items : List Item) (s : Stamp) (events : List Event) (full : Full) → IsInRange s → AreOf events freq items

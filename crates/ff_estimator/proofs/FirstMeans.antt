@@ -21,9 +21,9 @@ weights-first : (freq : ℕ) (s : Stamp) (more : List Stamp) → weights_of (ter
 weights-first freq s more =
     let all : List Stamp = s ∷ more in
     let own : weight_of (trip s - trip s) (s.tf - s.tf) freq ≡ 65536 = ap₂ (λ excess age. weight_of excess age freq) (omega arith) (omega arith)
-        ∙ weight_of_own freq in
+    ∙ weight_of_own freq in
     ap (λ (b : Base). weights_of (map (term_of freq b.base (rate_in_use freq all 0) (count_at all 0)) (slice_range all (max b.start 0) 1)))
-        (base_at-first freq s more)
+    (base_at-first freq s more)
     ∙ ap (λ w. 0 + w) own
 
 mean-first : (freq : ℕ) (s : Stamp) (more : List Stamp) → (m : ℤ × ℕ) × (mean_at freq (s ∷ more) 0 ≡ Some m)

@@ -66,7 +66,7 @@ fold-counts freq all =
     let here : i < length all = omega arith in
     let d : Full = full_at freq all i in
     get_or-map (λ (f : Full). f.est.update_ffcount) (fold_of freq all) i d 0 (omega arith)
-        ∙ ap (λ (f : Full). f.est.update_ffcount) (get_or-fold_of freq all i d here) ∙ full-count freq all i
+    ∙ ap (λ (f : Full). f.est.update_ffcount) (get_or-fold_of freq all i d here) ∙ full-count freq all i
     ))
 
 pub fold-at : (freq : ℕ) (all : List Stamp) (i : ℕ) → i < length all → slice_get (fold_of freq all) i ≡ Some (full_at freq all i)

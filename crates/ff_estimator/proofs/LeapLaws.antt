@@ -58,7 +58,7 @@ pub leaps-set : (k : Leaps) (items : List Item) (count : ℕ) (at : Bintime) →
 leaps-set k items n at are count late =
     let same : leaps_of (items ++ item.Set n at ∷ []) ≡ leaps_of items = leaps-push items (item.Set n at) ∙ append-nil (leaps_of items) in
     ap (λ (ls : List Leap). fields_at ls count) same ∙ are count
-        (subst (λ (q : Seen). IfSome q.stamp (λ s. s.tf ≤ count)) (seen-push items (item.Set n at)) late)
+    (subst (λ (q : Seen). IfSome q.stamp (λ s. s.tf ≤ count)) (seen-push items (item.Set n at)) late)
 
 -- the sum of all, where the latest is before a count
 sum-settled : (total : ℤ) (latest : Option Leap) (count : ℕ) → IfSome latest (λ l. l.count < count)
@@ -98,7 +98,7 @@ one-more : (leaps : List Leap) (l : Leap) (count : ℕ) (total : ℤ) → signs_
     → fields_at (leaps ++ l ∷ []) count ≡ fields_by total (Some l) count
 one-more leaps l count total e =
     ap₂ (λ o sum. fields_of (still_to_come count o) sum) (latest-push leaps l)
-        (signs-push count leaps l ∙ ap (λ sum. cond (ltb l.count count) (sum +ℤ l.sign) sum) e)
+    (signs-push count leaps l ∙ ap (λ sum. cond (ltb l.count count) (sum +ℤ l.sign) sum) e)
     ∙ by_test (leb count l.count) (ltb l.count count) refl refl
   where
     by_test : (a b : Bool) → leb count l.count ≡ a → ltb l.count count ≡ b
@@ -124,8 +124,8 @@ leaps-leap freq k items n leap are latest e count late =
     let here : c.stamp.tf ≤ count = subst (λ (o : Option Stamp). IfSome o (λ s. s.tf ≤ count)) c.is old in
     let settled = latest-settled k.latest (seen_of items).leap c.stamp.tf count latest c.settled here in
     let total : signs_before count (leaps_of items) ≡ sum_kept k = sym
-        (fields-total (still_to_come count (latest_leap (leaps_of items))) (signs_before count (leaps_of items)))
-        ∙ ap (λ (f : LeapFields). f.total) (are count old) ∙ sum-settled k.total k.latest count settled in
+    (fields-total (still_to_come count (latest_leap (leaps_of items))) (signs_before count (leaps_of items)))
+    ∙ ap (λ (f : LeapFields). f.total) (are count old) ∙ sum-settled k.total k.latest count settled in
     ap (λ (ls : List Leap). fields_at ls count) (leaps-push items x) ∙ one-more (leaps_of items) l count (sum_kept k) total
 
 -- a leap second of a file adds one at most
@@ -152,8 +152,13 @@ pub few-none : AreFew no_leaps 0
 few-none = record { low = omega (arith, ints); high = omega (arith, ints); least = omega (arith, ints); most = omega (arith, ints); latest = tt }
 
 pub few-within : (k : Leaps) (n m : ℕ) → n ≤ m → AreFew k n → AreFew k m
-few-within k n m more few = record { low = omega (arith, ints, few.low); high = omega (arith, ints, few.high);
-    least = omega (arith, ints, few.least); most = omega (arith, ints, few.most); latest = few.latest }
+few-within k n m more few = record {
+  low = omega (arith, ints, few.low);
+  high = omega (arith, ints, few.high);
+  least = omega (arith, ints, few.least);
+  most = omega (arith, ints, few.most);
+  latest = few.latest;
+}
 
 -- the leap seconds of items in range are in range
 leap-cons : (l : Leap) (ls : List Leap) → IsLeap l → All IsLeap ls → All IsLeap (l ∷ ls)
@@ -167,7 +172,7 @@ leaps-ranged (item.Set count at ∷ xs) all = leaps-ranged xs (All-tail IsItemIn
 leaps-ranged (item.Leap count leap ∷ xs) all =
     let here : IsLeapInRange count leap = All-head IsItemInRange (item.Leap count leap) xs all in
     leap-cons (record { count = count; sign = leap }) (leaps_of xs) (record { count = here.count; sign = here.sign })
-        (leaps-ranged xs (All-tail IsItemInRange (item.Leap count leap) xs all))
+    (leaps-ranged xs (All-tail IsItemInRange (item.Leap count leap) xs all))
 
 -- so what is told of them is sane
 pub record AreSaneFields (f : LeapFields) : Type 0 where
@@ -194,4 +199,4 @@ pub fields-sane : (items : List Item) (count : ℕ) → All IsItemInRange items 
 fields-sane items count all =
     let leaps : List Leap = leaps_of items in
     fields-by-range (still_to_come count (latest_leap leaps)) (signs_before count leaps)
-        (come-range count (latest_leap leaps) (latest-range leaps (leaps-ranged items all)))
+    (come-range count (latest_leap leaps) (latest-range leaps (leaps-ranged items all)))

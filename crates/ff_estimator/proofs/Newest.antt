@@ -49,7 +49,7 @@ mean_at-kept w freq all i base rate now stands many is_base is_rate is_now =
     ap (λ (xs : List Stamp). mean_of (map (term_of w.freq base.base rate now) xs)) range
     ∙ ap₂ (λ f (b : Base). mean_of (map (term_of f b.base rate now) (slice_range all (max b.start (i - 31)) (i + 1)))) stands.at is_base
     ∙ ap₂ (λ (r : Rate) n. mean_of (map (term_of freq (base_at freq all i).base r n)
-        (slice_range all (max (base_at freq all i).start (i - 31)) (i + 1)))) is_rate is_now
+    (slice_range all (max (base_at freq all i).start (i - 31)) (i + 1)))) is_rate is_now
 
 pub count_at-push : (all : List Stamp) (s : Stamp) → count_at (all ++ s ∷ []) (length all) ≡ s.tf
 count_at-push all s =
@@ -77,7 +77,7 @@ rates-push w freq all i rates stands many are =
     let near : rate_by w.freq (pair_of 64 w.stamps) ≡ local_rate freq all i = rate_over-kept w freq 64 all i stands (omega arith) many in
     let index : w.count - 1 ≡ i = omega (arith, stands.count) in
     let local : rates.local ≡ is_local freq all i = are.local ∙ ap (λ n. uses_local n (rate_by w.freq (pair_of 64 w.stamps)) rates.global) index
-        ∙ ap₂ (uses_local i) near global in
+    ∙ ap₂ (uses_local i) near global in
     record {
       global = global;
       local = local;
@@ -97,10 +97,10 @@ taken-push w freq all s base rates before t stands is_base are is_before was =
     let index : w.count - 1 ≡ n = omega (arith, stands.count, length_push all s) in
     let now : s.tf ≡ count_at all' n = sym (count_at-push all s) in
     let counts : s.tf - before ≡ count_at all' n - count_before all' n = ap₂ (λ a b. a - b) now
-        (is_before ∙ sym (count_before-next all) ∙ sym (count_before-append all (s ∷ []) n (omega arith))) in
+    (is_before ∙ sym (count_before-next all) ∙ sym (count_before-append all (s ∷ []) n (omega arith))) in
     let taken : t ≡ taken_before freq all' n = was ∙ sym (taken_before-append freq all (s ∷ []) n (omega arith)) in
     ap₂ (λ i mean. chosen i t.run (predicted_by rates.global (s.tf - before) t) mean) index
-        (mean_at-kept w freq all' n base rates.in_use s.tf stands (length_push all s) is_base are'.in_use now)
+    (mean_at-kept w freq all' n base rates.in_use s.tf stands (length_push all s) is_base are'.in_use now)
     ∙ ap₂ (λ (r : Rate) c. chosen n t.run (predicted_by r c t) (mean_at freq all' n)) are'.global counts
     ∙ ap (taken_after freq all' n) taken
 
@@ -116,7 +116,7 @@ full-push w freq all s base rates t stands is_base are taken =
     ap₂ (λ i c. full_of i c rates.global base.shifted rates.local t) index (sym (count_at-push all s))
     ∙ ap₂ (λ (r : Rate) (b : Base). full_of n (count_at (all ++ s ∷ []) n) r b.shifted rates.local t) are'.global is_base
     ∙ ap₂ (λ local (t : Taken). full_of n (count_at (all ++ s ∷ []) n) (global_rate freq (all ++ s ∷ []) n) (base_at freq (all ++ s ∷ []) n).shifted
-        local t) are'.local taken
+    local t) are'.local taken
 
 -- what a daemon then keeps, and says
 pub taken-stands : (w : windows.Kept) (freq : ℕ) (all : List Stamp) (s : Stamp) (base : Base) (rates : Rates) (before : ℕ)
@@ -134,7 +134,7 @@ pub full-stands : (w : windows.Kept) (freq : ℕ) (all : List Stamp) (s : Stamp)
 full-stands w freq all s base rates taken count full stands is_base are is_taken is_count is =
     let many : length (all ++ s ∷ []) ≡ suc (length all) = omega (arith, length_push all s) in
     is ∙ ap (λ n. full_of (n - 1) s.tf rates.global base.shifted rates.local taken) is_count
-        ∙ full-push w freq all s base rates taken stands is_base are (is_taken ∙ ap (taken_before freq (all ++ s ∷ [])) many)
+    ∙ full-push w freq all s base rates taken stands is_base are (is_taken ∙ ap (taken_before freq (all ++ s ∷ [])) many)
 
 -- the count of the newest stamp by what is kept
 pub newest-count : (w : windows.Kept) (freq : ℕ) (all : List Stamp) → windows.StandsFor w freq all → count_of (last_of w.stamps) ≡ count_of (last_of all)

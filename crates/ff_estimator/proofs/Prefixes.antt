@@ -44,20 +44,20 @@ mean_at-append freq xs ys i here =
     let from : ℕ = max base.start (i - 31) in
     let early = base_at-start freq xs i in
     ap (λ (b : Base). mean_of (map (term_of freq b.base (rate_in_use freq (xs ++ ys) i) (count_at (xs ++ ys) i))
-        (slice_range (xs ++ ys) (max b.start (i - 31)) (i + 1)))) (base_at-append freq xs ys i here)
+    (slice_range (xs ++ ys) (max b.start (i - 31)) (i + 1)))) (base_at-append freq xs ys i here)
     ∙ ap₂ (λ (rate : Rate) now. mean_of (map (term_of freq base.base rate now) (slice_range (xs ++ ys) from (i + 1))))
-        (rate_in_use-append freq xs ys i here) (count_at-append xs ys i here)
+    (rate_in_use-append freq xs ys i here) (count_at-append xs ys i here)
     ∙ ap (λ (zs : List Stamp). mean_of (map (term_of freq base.base (rate_in_use freq xs i) (count_at xs i)) zs))
-        (range-append xs ys from (i + 1) (omega arith) (omega arith))
+    (range-append xs ys from (i + 1) (omega arith) (omega arith))
 
 -- what is taken at a stamp, given what was taken before it
 pub taken_after-append : (freq : ℕ) (xs ys : List Stamp) (i : ℕ) (before : Taken) → i < length xs
     → taken_after freq (xs ++ ys) i before ≡ taken_after freq xs i before
 taken_after-append freq xs ys i before here =
     let counts : count_at (xs ++ ys) i - count_before (xs ++ ys) i ≡ count_at xs i - count_before xs i = ap₂ (λ m n. m - n)
-        (count_at-append xs ys i here) (count_before-append xs ys i (omega arith)) in
+    (count_at-append xs ys i here) (count_before-append xs ys i (omega arith)) in
     ap₂ (chosen i before.run) (ap₂ (λ (rate : Rate) n. predicted_by rate n before) (rate_over-append 1024 freq xs ys i here) counts)
-        (mean_at-append freq xs ys i here)
+    (mean_at-append freq xs ys i here)
 
 pub taken_before-append : (freq : ℕ) (xs ys : List Stamp) (i : ℕ) → i ≤ length xs → taken_before freq (xs ++ ys) i ≡ taken_before freq xs i
 unfolding taken_before
@@ -70,8 +70,8 @@ unfolding full_at
 full_at-append freq xs ys i here =
     let all : List Stamp = xs ++ ys in
     ap₂ (λ count (rate : Rate). full_of i count rate (base_at freq all i).shifted (is_local freq all i) (taken_at freq all i))
-        (count_at-append xs ys i here) (rate_over-append 1024 freq xs ys i here)
+    (count_at-append xs ys i here) (rate_over-append 1024 freq xs ys i here)
     ∙ ap₂ (λ (b : Base) local. full_of i (count_at xs i) (global_rate freq xs i) b.shifted local (taken_at freq all i))
-        (base_at-append freq xs ys i here) (ap₂ (uses_local i) (rate_over-append 64 freq xs ys i here) (rate_over-append 1024 freq xs ys i here))
+    (base_at-append freq xs ys i here) (ap₂ (uses_local i) (rate_over-append 64 freq xs ys i here) (rate_over-append 1024 freq xs ys i here))
     ∙ ap (full_of i (count_at xs i) (global_rate freq xs i) (base_at freq xs i).shifted (is_local freq xs i))
-        (taken_before-append freq xs ys (suc i) (omega arith))
+    (taken_before-append freq xs ys (suc i) (omega arith))

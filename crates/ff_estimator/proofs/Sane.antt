@@ -137,14 +137,14 @@ mean-at freq all i low are =
     let Timely : Term → Type 0 = λ t. t.weight * t.twice_time ≤ t.weight * (2 ^ 98 - 1) in
     let Spread : Term → Type 0 = λ t. t.weight * t.twice_spread ≤ t.weight * (2 ^ 98 - 1) in
     let among : (P : Stamp → Type 0) → All P all → All P (slice_range all from (i + 1)) = λ P each. All-take P (i + 1 - from) (drop from all)
-        (All-drop P from all each) in
+    (All-drop P from all each) in
     mean-of (terms_at freq all i)
     (sum-below (λ t. t.weight * t.twice_time) (terms_at freq all i)
-        (All-map Timely term (slice_range all from (i + 1)) (among (λ s. Timely (term s))
-        (λ k d here. term-time freq base now rate (get_or all k d) low (are.timed k d here) (are.sound k d here) is))))
+    (All-map Timely term (slice_range all from (i + 1)) (among (λ s. Timely (term s))
+    (λ k d here. term-time freq base now rate (get_or all k d) low (are.timed k d here) (are.sound k d here) is))))
     (sum-below (λ t. t.weight * t.twice_spread) (terms_at freq all i)
-        (All-map Spread term (slice_range all from (i + 1)) (among (λ s. Spread (term s))
-        (λ k d here. term-spread freq base now rate (get_or all k d) low (are.sound k d here) is))))
+    (All-map Spread term (slice_range all from (i + 1)) (among (λ s. Spread (term s))
+    (λ k d here. term-spread freq base now rate (get_or all k d) low (are.sound k d here) is))))
 
 -- what is taken before a stamp is within the bounds of a daemon's
 taken-bounded : (freq : ℕ) (all : List Stamp) (i : ℕ) → 1000000 ≤ freq → AreAccepted freq all → i ≤ length all
@@ -159,9 +159,9 @@ taken-bounded freq all (suc i) low are here =
     let most = highest-bounded freq low in
     let mean = mean-at freq all i low are in
     let predicted = predicted-within rate t (count_before all i) (count_at all i) (omega (arith, is.high, is.highest, most))
-        (omega (arith, is.highest, most)) (count-before freq all i are (omega arith)) before in
+    (omega (arith, is.highest, most)) (count-before freq all i are (omega arith)) before in
     chosen-bounded i t.run (predicted_by rate (count_at all i - count_before all i) t) (mean_at freq all i) (count_at all i) before.run predicted
-        mean.time mean.spread
+    mean.time mean.spread
 
 pub full-sane : (freq : ℕ) (all : List Stamp) (i : ℕ) → 1000000 ≤ freq → AreAccepted freq all → i < length all
     → is_sane_estimate (full_at freq all i).est ≡ true
@@ -172,6 +172,10 @@ full-sane freq all i low are here =
     let update = count-below freq all i are here in
     let taken : IsTakenBounded (taken_at freq all i) (count_at all i) = taken-bounded freq all (suc i) low are (omega arith) in
     let time = number_of-of_grains (taken_at freq all i).time in
-    let sane : IsSane (full_at freq all i).est = record { update = update; period = omega (arith, is.high, is.highest, most);
-        low = rw time taken.low; high = rw time (omega (arith, ints, taken.high, update)) } in
+    let sane : IsSane (full_at freq all i).est = record {
+      update = update;
+      period = omega (arith, is.high, is.highest, most);
+      low = rw time taken.low;
+      high = rw time (omega (arith, ints, taken.high, update));
+    } in
     sane-from (full_at freq all i).est sane (omega arith) (inl refl)

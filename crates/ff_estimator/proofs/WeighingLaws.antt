@@ -70,13 +70,13 @@ module _ (freq base now : ℕ) (rate : Rate) where
   times_at : (w : Weighed) (stamps : List Stamp) → AreSums freq base now w stamps → sum_by time_at stamps ≡ w.times + rate.period * w.counts
   times_at w stamps was =
       let parts = sum_parts time_at (λ s. weight_at freq base now s * server_times s) (λ s. weight_at freq base now s * counts_since now s) 1
-          rate.period (λ s. times_part (weight_at freq base now s) (server_times s) rate.period (counts_since now s)) stamps in
+      rate.period (λ s. times_part (weight_at freq base now s) (server_times s) rate.period (counts_since now s)) stamps in
       omega (arith, parts, was.times, ap (λ n. rate.period * n) was.counts)
 
   spreads_at : (w : Weighed) (stamps : List Stamp) → AreSums freq base now w stamps → sum_by spread_at stamps ≡ w.trips * rate.high + rate_error rate * w.counts
   spreads_at w stamps was =
       let parts = sum_parts spread_at (λ s. weight_at freq base now s * trip s) (λ s. weight_at freq base now s * counts_since now s) rate.high
-          (rate_error rate) (λ s. spreads_part (weight_at freq base now s) (trip s) rate.high (rate_error rate) (counts_since now s)) stamps in
+      (rate_error rate) (λ s. spreads_part (weight_at freq base now s) (trip s) rate.high (rate_error rate) (counts_since now s)) stamps in
       omega (arith, parts, ap (λ n. n * rate.high) was.trips, ap (λ n. rate_error rate * n) was.counts)
 
   -- the sums at a rate are those of the terms
@@ -97,7 +97,7 @@ module _ (freq base now : ℕ) (rate : Rate) where
   terms_bounded w stamps was bounded low order timed sound =
       let weight = weight_at freq base now in
       let times = sum_at_most time_at weight (2 ^ 98 - 1) stamps (λ i d within. term-time freq base now rate _ low (timed i d within)
-          (sound i d within) order) in
+      (sound i d within) order) in
       let spreads = sum_at_most spread_at weight (2 ^ 98 - 1) stamps (λ i d within. term-spread freq base now rate _ low (sound i d within) order) in
       record {
         few = bounded.few;

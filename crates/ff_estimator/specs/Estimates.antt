@@ -40,8 +40,14 @@ estimate_of i count rate t = record {
 
 -- all that is said at stamp i, by its parts
 abbrev pub full_of : ℕ → ℕ → Rate → Bool → Bool → Taken → Full
-full_of i count rate shifted local t = record { est = estimate_of i count rate t; spread = t.spread; rate = rate; shifted = shifted; local = local;
-    predicted = t.predicted }
+full_of i count rate shifted local t = record {
+  est = estimate_of i count rate t;
+  spread = t.spread;
+  rate = rate;
+  shifted = shifted;
+  local = local;
+  predicted = t.predicted;
+}
 
 -- all that is said at stamp i
 unfoldable pub full_at : ℕ → List Stamp → ℕ → Full

@@ -30,6 +30,7 @@ const MOST_DOUBTS: u32 = 32;
 const MILLISECOND: u128 = 18_446_744_073_709_551;
 
 // The sanity check.
+#[inline(always)]
 fn is_doubted(i: u64, run: u32, predicted: i128, mean: i128) -> bool
     requires predicted { (pos 0 ≤ℤ predicted) × (predicted <ℤ pos (2 ^ 110)) }
     requires mean { (pos 0 ≤ℤ mean) × (mean <ℤ pos (2 ^ 110)) }
@@ -40,6 +41,7 @@ fn is_doubted(i: u64, run: u32, predicted: i128, mean: i128) -> bool
 
 /// What is taken at stamp `i`, by how many times in a row its prediction was taken for a doubted
 /// mean, by its prediction and by its mean, each a time and its spread in grains.
+#[inline(always)]
 pub fn chosen(i: u64, run: u32, predicted: (i128, u128), mean: Option<(i128, u128)>) -> Taken
     requires predicted { (pos 0 ≤ℤ predicted.0) × (predicted.0 <ℤ pos (2 ^ 110)) }
     requires mean { IfSome mean (λ m. (pos 0 ≤ℤ m.0) × (m.0 <ℤ pos (2 ^ 110))) }
@@ -68,6 +70,7 @@ pub fn chosen(i: u64, run: u32, predicted: (i128, u128), mean: Option<(i128, u12
 }
 
 /// What was taken, carried over `counts` at a rate: the time and its spread in grains.
+#[inline(always)]
 pub fn predicted_by(rate: &Rate, counts: u64, t: &Taken) -> (i128, u128)
     requires counts { counts < 2 ^ 62 }
     requires period { rate.now.period < 2 ^ 45 }

@@ -56,6 +56,7 @@ impl Model for Daemon {
 const RECENT: u64 = 32;
 
 // The newest stamp, if there is one.
+#[inline(always)]
 fn newest(window: &Window) -> Option<Stamp>
     ensures value { result ≡ last_of window.now.stamps }
     ensures timed { IfSome result IsInRange }
@@ -67,6 +68,7 @@ fn newest(window: &Window) -> Option<Stamp>
 }
 
 // The count at which the reply of the newest stamp came, and 0 before there is one.
+#[inline(always)]
 fn newest_count(window: &Window) -> u64
     ensures value { result ≡ count_of (last_of window.now.stamps) }
     ensures bound { result < 2 ^ 62 }
@@ -78,6 +80,7 @@ fn newest_count(window: &Window) -> u64
 }
 
 // The mean at the newest stamp and its spread, in grains.
+#[inline(always)]
 fn mean_at(window: &Window, freq: u64, base: &Base, rate: &Rate, now: u64) -> Option<(i128, u128)>
     requires low { 1000000 ≤ freq }
     requires high { freq ≤ 16000000000 }
@@ -106,6 +109,7 @@ fn mean_at(window: &Window, freq: u64, base: &Base, rate: &Rate, now: u64) -> Op
 }
 
 // What is taken at the newest stamp, whose reply came at `now`, given what was taken at `before`.
+#[inline(always)]
 fn taken_at(
     window: &Window,
     freq: u64,
@@ -170,6 +174,7 @@ impl Daemon {
     ///
     /// A step is one comparison of two round trips. The steps and the credit together rise by twelve
     /// at most, so in the long run a stamp takes twelve steps. One that is refused takes none.
+    #[inline(always)]
     pub fn feed<L: Ledger>(&mut self, s: Stamp, steps: &mut Steps<L>) -> Fed
         requires { IsInRange s }
         ensures answer { (freq : ℕ) (items : List Item) → StandsFor self.old freq items → result ≡ fed_of freq items s }

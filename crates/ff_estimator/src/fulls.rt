@@ -60,6 +60,7 @@ const PARTS: u128 = 1_000_000_000_000;
 const WARM: u64 = 16;
 
 // A spread in nanoseconds, rounded up. The product may not fit, so the seconds are taken apart.
+#[inline(always)]
 #[tactic(auto, using(ff_grain::proofs::Parts::ceil_by_parts))]
 fn nanos_of(spread: u128) -> u128
     requires { spread < 2 ^ 126 }
@@ -69,6 +70,7 @@ fn nanos_of(spread: u128) -> u128
 }
 
 // The error of a rate in parts in 10^12, rounded up.
+#[inline(always)]
 fn rate_error(rate: &Rate, freq: u64) -> u32
     requires low { 1000000 ≤ freq }
     requires high { freq ≤ 16000000000 }
@@ -79,6 +81,7 @@ fn rate_error(rate: &Rate, freq: u64) -> u32
 }
 
 // The estimate at stamp `i`, whose reply came at `count`, by the global rate and what was taken.
+#[inline(always)]
 fn estimate_of(i: u64, count: u64, rate: &Rate, t: &Taken, freq: u64) -> Estimate
     requires low { 1000000 ≤ freq }
     requires high { freq ≤ 16000000000 }
@@ -105,6 +108,7 @@ fn estimate_of(i: u64, count: u64, rate: &Rate, t: &Taken, freq: u64) -> Estimat
 }
 
 /// All that is said at stamp `i`, whose reply came at `count`.
+#[inline(always)]
 pub fn full_of(i: u64, count: u64, rates: &Rates, shifted: bool, t: &Taken, freq: u64) -> Full
     requires low { 1000000 ≤ freq }
     requires high { freq ≤ 16000000000 }
@@ -123,6 +127,7 @@ pub fn full_of(i: u64, count: u64, rates: &Rates, shifted: bool, t: &Taken, freq
 }
 
 /// The same with what is told of leap seconds.
+#[inline(always)]
 pub fn with_leaps(fields: LeapFields, full: Full) -> Full
     ensures { result ≡ with_leaps fields full }
 {

@@ -36,6 +36,7 @@ pub fn no_leaps() -> Leaps
 }
 
 // The sum of the signs of all of them.
+#[inline(always)]
 fn sum_kept(leaps: &Leaps) -> i16
     requires few { AreFew leaps.now 100 }
     ensures { result ≡ sum_kept leaps.now }
@@ -47,6 +48,7 @@ fn sum_kept(leaps: &Leaps) -> i16
 }
 
 /// What is told of them at a count.
+#[inline(always)]
 pub fn fields_kept(leaps: &Leaps, count: u64) -> LeapFields
     requires few { AreFew leaps.now 100 }
     ensures { result ≡ fields_kept leaps.now count }

@@ -21,6 +21,7 @@ use rtt_window::Window;
 /// After the weighted offset estimate of Veitch, Ridoux and Korada (2009).
 ///
 /// `freq` is the window's nominal frequency in Hz, from 10^6 to 16*10^9. `now` is below 2^62.
+#[inline(always)]
 pub fn mean(
     window: &Window,
     from: usize,

@@ -11,6 +11,7 @@ use rtt_window::Window;
 use stamp_text::Stamp;
 
 // Whether two times have the same seconds and grains.
+#[inline(always)]
 fn is_same_time(a: &Bintime, b: &Bintime) -> bool
     ensures { result ≡ true → a.now ≡ b.now }
 {
@@ -18,6 +19,7 @@ fn is_same_time(a: &Bintime, b: &Bintime) -> bool
 }
 
 // Whether two stamps have the same columns.
+#[inline(always)]
 fn is_same(a: &Stamp, b: &Stamp) -> bool
     ensures { result ≡ true → a.now ≡ b.now }
 {
@@ -46,6 +48,7 @@ impl PairRate {
     ghost use Rattle.std.specs.Prelude.{◌≡◌, true};
 
     // It is the rate of this pair.
+    #[inline(always)]
     fn is_of(&self, j: &Stamp, k: &Stamp, freq: u64) -> bool
         ensures first { result ≡ true → self.now.first ≡ j.now }
         ensures second { result ≡ true → self.now.second ≡ k.now }
@@ -59,6 +62,7 @@ impl PairRate {
 }
 
 // The rate of a pair: the kept one, or where the pair is another, its own, which is then kept.
+#[inline(always)]
 fn pair_rate(last: &mut Option<PairRate>, j: &Stamp, k: &Stamp, freq: u64) -> Rate
     requires low { 1000000 ≤ freq }
     requires high { freq ≤ 16000000000 }
@@ -67,7 +71,7 @@ fn pair_rate(last: &mut Option<PairRate>, j: &Stamp, k: &Stamp, freq: u64) -> Ra
     ensures order { IsRate freq result }
     ensures bound { result.high < 2 ^ 45 }
 {
-    if let Some(kept) = *last {
+    if let Some(kept) = last.as_ref() {
         if kept.is_of(j, k, freq) {
             return kept.rate;
         }
@@ -84,6 +88,7 @@ fn pair_rate(last: &mut Option<PairRate>, j: &Stamp, k: &Stamp, freq: u64) -> Ra
 
 // The rate by the pair among the last stamps, as many as `reach`. With one stamp it is the nominal
 // one. `last` keeps the rate of the last such pair.
+#[inline(always)]
 fn rate_over(window: &Window, reach: u32, freq: u64, last: &mut Option<PairRate>) -> Rate
     requires reach { (2 ≤ reach) × (reach ≤ 1024) }
     requires low { 1000000 ≤ freq }
@@ -114,6 +119,7 @@ pub struct Rates {
 const FULL: u64 = 63;
 
 // Whether the local rate is used at stamp `i`: from stamp 63 on, where it is near to the global one.
+#[inline(always)]
 fn uses_local(i: u64, local: &Rate, global: &Rate) -> bool
     ensures { result ≡ uses_local i local.now global.now }
 {
@@ -122,6 +128,7 @@ fn uses_local(i: u64, local: &Rate, global: &Rate) -> bool
 }
 
 /// The rates at the newest stamp. `far` and `near` keep the rates of the last pairs.
+#[inline(always)]
 pub fn rates_at(
     window: &Window,
     freq: u64,

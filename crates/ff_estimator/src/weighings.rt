@@ -25,6 +25,7 @@ pub struct Weighed {
 }
 
 // The counts from both of a stamp's readings of the counter to a later count.
+#[inline(always)]
 fn counts_since(now: u64, s: &Stamp) -> u64
     requires now { now < 2 ^ 62 }
     ensures value { result ≡ counts_since now s.now }
@@ -35,6 +36,7 @@ fn counts_since(now: u64, s: &Stamp) -> u64
 
 // How much a stamp counts for the time of now: by its round trip above the base, and by the counts
 // since its reply.
+#[inline(always)]
 fn weight_of(s: &Stamp, freq: u64, base: u64, now: u64) -> u32
     requires freq { freq ≤ 16000000000 }
     requires sound { IsPlausible freq s.now }
@@ -51,6 +53,7 @@ impl Weighed {
     ghost use Rattle.ff_estimator.specs.Weighings.{AreSums, IsBounded, AreAtRate, at_rate};
 
     /// No stamp.
+    #[inline(always)]
     pub fn new() -> Weighed
         ensures none { (freq base now : ℕ) → AreSums freq base now result [] }
         ensures bounded { IsBounded result }
@@ -68,6 +71,7 @@ impl Weighed {
     /// The sums over what these stamps say at a rate: twice a time is both of the server's times and
     /// what the counts take, twice its spread the round trip at the highest period and what the period
     /// may be wrong over the counts.
+    #[inline(always)]
     pub fn at_rate(&self, rate: &Rate) -> Sums
         requires { AreAtRate self.now rate.now }
         ensures { result ≡ at_rate self.now rate.now }
@@ -79,6 +83,7 @@ impl Weighed {
 }
 
 // Adds a stamp. One of weight 0 changes nothing.
+#[inline(always)]
 fn weigh(sums: &mut Weighed, s: &Stamp, freq: u64, base: u64, now: u64)
     requires few { sums.old.added < 32 }
     requires bounded { IsBounded sums.old }
@@ -104,6 +109,7 @@ fn weigh(sums: &mut Weighed, s: &Stamp, freq: u64, base: u64, now: u64)
 }
 
 /// Adds these stamps.
+#[inline(always)]
 pub fn weigh_all(sums: &mut Weighed, stamps: &[Stamp], freq: u64, base: u64, now: u64)
     requires few { sums.old.added + length stamps.now ≤ 32 }
     requires bounded { IsBounded sums.old }

@@ -53,7 +53,7 @@ reach freq ss are k d within =
     let n : ℕ = length ss - 1 in
     let last : Stamp = get_or ss n blank in
     let is : (seen_of (map item.Stamp ss)).stamp ≡ Some last = seen-stamp (map item.Stamp ss) ∙ ap last_of (stamps-back ss)
-        ∙ slice_get-get_or ss n blank (omega arith) in
+    ∙ slice_get-get_or ss n blank (omega arith) in
     let here : get_or (map (λ s. s.tf) ss) k d ≡ (get_or ss k blank).tf = count-at ss k d (omega arith) in
     let below : (get_or ss k blank).tf ≤ last.tf = elim (eq-or-lt_of_le {n = k} {m = n} (omega arith)) as (λ _. (get_or ss k blank).tf ≤ last.tf) [
       | inl same ↦ (let e = ap (λ i. (get_or ss i blank).tf) same in omega arith)

@@ -20,5 +20,5 @@ pub made-ticks : MadeTicksAreTrue
 made-ticks number count between beside ticks most is =
     let made : List Stamp = made_stamps number count in
     readings-true frequency between beside made_world (map item.Stamp made) ticks (omega arith) (omega arith) made-fits
-        (stamps-are-items frequency made (made-accepted number count most))
-        (subst (All (LiesIn made_world)) (sym (stamps-back made)) (made-lie number count)) is
+    (stamps-are-items frequency made (made-accepted number count most))
+    (subst (All (LiesIn made_world)) (sym (stamps-back made)) (made-lie number count)) is

@@ -35,7 +35,7 @@ with-accepted freq items s (Err why) e timed are = are
 
 pub holds-next : (old new : daemons.Kept) (w : World) (freq : ℕ) (s : Stamp) → IsInRange s → LiesIn w s → Holds old w freq
     → ((freq : ℕ) (items : List Item) → daemons.StandsFor old freq items
-        → daemons.StandsFor new freq (accepted_with items (item.Stamp s) (accept_item freq items (item.Stamp s)))) → Holds new w freq
+    → daemons.StandsFor new freq (accepted_with items (item.Stamp s) (accept_item freq items (item.Stamp s)))) → Holds new w freq
 holds-next old new w freq s timed lies holds stands =
     let items : List Item = holds.items in
     let r : Result (Unit {0}) Refused = accept_item freq items (item.Stamp s) in
@@ -63,7 +63,7 @@ behind-true w freq items s h = h
 
 pub estimate-true : (old : daemons.Kept) (w : World) (freq : ℕ) (s : Stamp) (full : Full) → IsInRange s → LiesIn w s → Holds old w freq
     → ((freq : ℕ) (items : List Item) → daemons.StandsFor old freq items → fed.Estimate full ≡ fed_of freq items s) → distance w
-        (number_of full.est.update_time) s.tf ≤ full.spread
+    (number_of full.est.update_time) s.tf ≤ full.spread
 estimate-true old w freq s full timed lies holds answers = by_test (accept_item freq holds.items (item.Stamp s)) refl (answers freq holds.items holds.stands)
   where
     by_test : (r : Result (Unit {0}) Refused) → accept_item freq holds.items (item.Stamp s) ≡ r
@@ -78,6 +78,6 @@ estimate-true old w freq s full timed lies holds answers = by_test (accept_item 
         let accepted : AreAccepted freq all' = subst (AreAccepted freq) (stamps-push items (item.Stamp s)) next.stamps in
         let within = spread-holds freq w all' holds.fits accepted (All-push (LiesIn w) all s holds.lie lies) (length all) (omega (arith, length_push all s)) in
         let at : distance w (number_of (full_at freq all' (length all)).est.update_time) s.tf ≤ (full_at freq all' (length all)).spread = subst
-            (λ n. distance w (number_of (full_at freq all' (length all)).est.update_time) n ≤ (full_at freq all' (length all)).spread)
-            (update-is freq all s) within in
+        (λ n. distance w (number_of (full_at freq all' (length all)).est.update_time) n ≤ (full_at freq all' (length all)).spread)
+        (update-is freq all s) within in
         subst (λ (f : Full). distance w (number_of f.est.update_time) s.tf ≤ f.spread) same (behind-true w freq items s at)

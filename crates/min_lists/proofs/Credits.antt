@@ -25,7 +25,7 @@ lows_cut trip from from' to l =
     let start : from + (from' - from) ≡ from' = omega arith in
     let long : to - from - (from' - from) ≡ to - from' = omega arith in
     let later : drop (from' - from) (map trip (range_with_len from (to - from))) ≡ map trip (range_with_len from' (to - from')) = drop_between trip
-        from (to - from) (from' - from) ∙ rw (start, long) refl in
+    from (to - from) (from' - from) ∙ rw (start, long) refl in
     subst (λ ts. lows ts ≤ lows (map trip (range_with_len from (to - from)))) later (lows_drop (from' - from) (map trip (range_with_len from (to - from))))
 
 pub credit_cut : (ns : List Node) (count : ℕ) (ws : List Window) (p : ℕ) (w : Window) → p < length ws → AreLists ns count ws
@@ -39,11 +39,11 @@ credit_cut ns count ws p w room old new later same which =
       | inl e ↦
           let was_at : lows_of (window_at ws (place which)) ≡ lows_of (window_at ws p) = ap (λ q. lows_of (window_at ws q)) e in
           let is_at : lows_of (window_at (set ws p w) (place which)) ≡ lows (trips_between ns w.from (window_at ws p).to) = ap
-              (λ q. lows_of (window_at (set ws p w) q)) e ∙ ap lows_of (window_set ws p w room) ∙ ap (λ t. lows (trips_between ns w.from t)) same in
+          (λ q. lows_of (window_at (set ws p w) q)) e ∙ ap lows_of (window_set ws p w room) ∙ ap (λ t. lows (trips_between ns w.from t)) same in
           omega (arith, lows_cut (trip_at ns) (window_at ws p).from w.from (window_at ws p).to later)
       | inr ne ↦
           let stays : lows_of (window_at (set ws p w) (place which)) ≡ lows_of (window_at ws (place which)) = ap lows_of
-              (window_set_other ws p w room (place which) ne) in
+          (window_set_other ws p w room (place which) ne) in
           omega arith
     ]
 
@@ -57,7 +57,7 @@ credit_enter ns ns' count ws p w steps steps' room old new cost which at =
     let lows_of' : Window → ℕ = λ v. lows (trips_between ns' v.from v.to) in
     let was : credit_in (kept_in ns count ws) which ≡ lows_of (window_at ws p) = rw at (credit_in_kept ns count ws which old) in
     let is : credit_in (kept_in ns' count (set ws p w)) which ≡ lows_of' w = credit_in_kept ns' count (set ws p w) which new
-        ∙ ap (λ q. lows_of' (window_at (set ws p w) q)) (sym at) ∙ ap lows_of' (window_set ws p w room) in
+    ∙ ap (λ q. lows_of' (window_at (set ws p w) q)) (sym at) ∙ ap lows_of' (window_set ws p w room) in
     omega arith
 
 pub credit_others : (ns ns' : List Node) (count : ℕ) (ws : List Window) (p : ℕ) (w : Window) → p < length ws → AreLists ns count ws
@@ -93,15 +93,51 @@ pub credit_one : (k k' : Kept) (which : Which) (steps steps' : ℕ) → steps' +
     → ((other : Which) → other ≢ which → credit_in k' other ≡ credit_in k other)
     → steps' + credit k' ≤ steps + credit k + 2
 unfolding credit
-credit_one k k' Base steps steps' own same = omega (arith, same Recent (λ e. cc), same WideOld (λ e. cc), same WideNew (λ e. cc),
-    same NearOld (λ e. cc), same NearNew (λ e. cc))
-credit_one k k' Recent steps steps' own same = omega (arith, same Base (λ e. cc), same WideOld (λ e. cc), same WideNew (λ e. cc),
-    same NearOld (λ e. cc), same NearNew (λ e. cc))
-credit_one k k' WideOld steps steps' own same = omega (arith, same Base (λ e. cc), same Recent (λ e. cc), same WideNew (λ e. cc),
-    same NearOld (λ e. cc), same NearNew (λ e. cc))
-credit_one k k' WideNew steps steps' own same = omega (arith, same Base (λ e. cc), same Recent (λ e. cc), same WideOld (λ e. cc),
-    same NearOld (λ e. cc), same NearNew (λ e. cc))
-credit_one k k' NearOld steps steps' own same = omega (arith, same Base (λ e. cc), same Recent (λ e. cc), same WideOld (λ e. cc),
-    same WideNew (λ e. cc), same NearNew (λ e. cc))
-credit_one k k' NearNew steps steps' own same = omega (arith, same Base (λ e. cc), same Recent (λ e. cc), same WideOld (λ e. cc),
-    same WideNew (λ e. cc), same NearOld (λ e. cc))
+credit_one k k' Base steps steps' own same = omega (
+  arith,
+  same Recent (λ e. cc),
+  same WideOld (λ e. cc),
+  same WideNew (λ e. cc),
+  same NearOld (λ e. cc),
+  same NearNew (λ e. cc),
+)
+credit_one k k' Recent steps steps' own same = omega (
+  arith,
+  same Base (λ e. cc),
+  same WideOld (λ e. cc),
+  same WideNew (λ e. cc),
+  same NearOld (λ e. cc),
+  same NearNew (λ e. cc),
+)
+credit_one k k' WideOld steps steps' own same = omega (
+  arith,
+  same Base (λ e. cc),
+  same Recent (λ e. cc),
+  same WideNew (λ e. cc),
+  same NearOld (λ e. cc),
+  same NearNew (λ e. cc),
+)
+credit_one k k' WideNew steps steps' own same = omega (
+  arith,
+  same Base (λ e. cc),
+  same Recent (λ e. cc),
+  same WideOld (λ e. cc),
+  same NearOld (λ e. cc),
+  same NearNew (λ e. cc),
+)
+credit_one k k' NearOld steps steps' own same = omega (
+  arith,
+  same Base (λ e. cc),
+  same Recent (λ e. cc),
+  same WideOld (λ e. cc),
+  same WideNew (λ e. cc),
+  same NearNew (λ e. cc),
+)
+credit_one k k' NearNew steps steps' own same = omega (
+  arith,
+  same Base (λ e. cc),
+  same Recent (λ e. cc),
+  same WideOld (λ e. cc),
+  same WideNew (λ e. cc),
+  same NearOld (λ e. cc),
+)

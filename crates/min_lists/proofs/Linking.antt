@@ -42,6 +42,6 @@ linked_behind trip before after before' after' from to head b old l last before_
             ] in
             let was = old.afters i m (omega arith) (λ j n k. low j n (omega arith)) in
             subst (IsFirstMinimum trip (i + 1) (to + 1)) (sym (afters i m (omega arith) other))
-                (stays_least trip (i + 1) to (after i) b was (omega arith) below le)
+            (stays_least trip (i + 1) to (after i) b was (omega arith) below le)
       ];
     }

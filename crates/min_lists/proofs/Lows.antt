@@ -72,7 +72,7 @@ lows_one_more trip (suc n) from i b e f =
       | inl l ↦
           let some : b - from ≡ suc (b - (from + 1)) = omega arith in
           let same = same_pass p trip (from + 1) (b - (from + 1)) (n + 1) (omega (arith, f.within))
-              (λ low j m k. le-leb (trip from) (trip j) (stays_low trip from i b f l low j (omega arith) (omega arith))) in
+          (λ low j m k. le-leb (trip from) (trip j) (stays_low trip from i b f l low j (omega arith) (omega arith))) in
           rw (some, same, later) (omega arith)
       | inr l ↦
           let none : b - from ≡ 0 = omega arith in
@@ -95,5 +95,5 @@ pub lows_next : (trip trip' : ℕ → ℕ) (from to b steps steps' : ℕ) → ((
 lows_next trip trip' from to b steps steps' same l f cost =
     let one = lows_before trip from to b l f in
     let all : map trip' (range_with_len from (to + 1 - from)) ≡ map trip (range_with_len from (to + 1 - from)) = ap
-        (λ (t : ℕ → ℕ). map t (range_with_len from (to + 1 - from))) (fun_ext same) in
+    (λ (t : ℕ → ℕ). map t (range_with_len from (to + 1 - from))) (fun_ext same) in
     rw (all, one) (omega arith)

@@ -93,14 +93,14 @@ trips_with ns ns' count rtt here others =
     same_lists _ _ (omega (arith, length-map-range_with_len (trip_at ns') lo' (count + 1 - lo'), length-drop d (xs ++ rtt ∷ []))) (λ k e h.
     let within : k < count + 1 - lo' = omega (arith, length-map-range_with_len (trip_at ns') lo' (count + 1 - lo')) in
     let new : get_or (trips_between ns' lo' (count + 1)) k e ≡ trip_at ns' (lo' + k) = get_or-map-range_with_len (trip_at ns') lo' (count + 1 - lo')
-        k (lo' + k) e within refl in
+    k (lo' + k) e within refl in
     let old : get_or (last_trips (xs ++ rtt ∷ [])) k e ≡ get_or (xs ++ rtt ∷ []) (d + k) e = get_or-drop d (xs ++ rtt ∷ []) k e in
     elim (cases_lt (d + k) (length xs)) [
       | inl l ↦
           let apart : (lo' + k) % 1024 ≢ count % 1024 = omega arith in
           new ∙ others (lo' + k) apart
           ∙ sym (old ∙ get_or_append_left xs (rtt ∷ []) e (d + k) l ∙ get_or-map-range_with_len (trip_at ns) lo (count - lo) (d + k) (lo' + k) e
-              (omega arith) (omega arith))
+          (omega arith) (omega arith))
       | inr m ↦
           let last : lo' + k ≡ count = omega arith in
           new ∙ ap (trip_at ns') last ∙ here ∙ sym (old ∙ get_or_push xs rtt e (d + k) (omega arith))

@@ -19,7 +19,7 @@ run_cost (Enter other before after ∷ calls) old last which run =
     elim (cases_Bool (is_same other which)) [
       | inl e ↦
           let own : after + credit_in run.0 which ≤ before + credit_in old which
-              + 2 = subst (λ w. after + credit_in run.0 w ≤ before + credit_in old w + 2) (is_same-is other which e) run.1.1 in
+          + 2 = subst (λ w. after + credit_in run.0 w ≤ before + credit_in old w + 2) (is_same-is other which e) run.1.1 in
           let forward : before ≤ after = run.1.0 in
           grind (arith, nat_tests, common_steps)
       | inr ne ↦

@@ -53,6 +53,7 @@ impl Lists {
     /// Adds a round trip, in counts. It gets the next index, and no window has it yet.
     ///
     /// No window may still have the index 1,024 before it, whose round trip goes.
+    #[inline(always)]
     pub fn add(&mut self, rtt: u64)
         requires few { self.old.count < 2 ^ 62 }
         requires gone { (which : Which) (i : ℕ) → i + 1024 ≡ self.old.count →
@@ -71,6 +72,7 @@ impl Lists {
     ///
     /// A step is one comparison of two round trips. The steps and the credit together rise by two
     /// at most, so in the long run an index takes two steps.
+    #[inline(always)]
     pub fn enter<L: Ledger>(&mut self, which: Which, steps: &mut Steps<L>)
         requires added { (window self.old which).to < self.old.count }
         requires kept { self.old.count ≤ (window self.old which).to + 1024 }
@@ -84,6 +86,7 @@ impl Lists {
     }
 
     /// Raises the left end of a window.
+    #[inline(always)]
     pub fn cut(&mut self, which: Which, from: u64)
         requires forward { (window self.old which).from ≤ from }
         requires within { from ≤ (window self.old which).to }
@@ -97,6 +100,7 @@ impl Lists {
     }
 
     /// The first index of least round trip in a window. `None` comes where it is empty.
+    #[inline(always)]
     pub fn least(&self, which: Which) -> Option<u64>
         ensures none { IsNone result ↔ ((window self.now which).from ≡ (window self.now which).to) }
         ensures least { (all : List ℕ) → StandsFor self.now all →

@@ -60,6 +60,7 @@ impl Nodes {
     }
 
     /// The round trip of this index.
+    #[inline(always)]
     pub fn trip(&self, index: u64) -> Trip
         ensures { result ≡ trip_at self.now index }
     {
@@ -67,6 +68,7 @@ impl Nodes {
     }
 
     /// How the node of this index is linked in the list at this place.
+    #[inline(always)]
     pub fn link(&self, place: usize, index: u64) -> Link
         requires { place < 6 }
         ensures { result ≡ link_at self.now place index }
@@ -75,6 +77,7 @@ impl Nodes {
     }
 
     /// Gives the node of this index its round trip.
+    #[inline(always)]
     pub fn set_trip(&mut self, index: u64, trip: Trip)
         ensures here { trip_at self.new index ≡ trip }
         ensures others { (i : ℕ) → i % 1024 ≢ index % 1024 →
@@ -86,6 +89,7 @@ impl Nodes {
     }
 
     /// Links the node of this index to the one before it in the list at this place.
+    #[inline(always)]
     pub fn set_before(&mut self, place: usize, index: u64, before: u64)
         requires { place < 6 }
         ensures here { before_at self.new place index ≡ before }
@@ -100,6 +104,7 @@ impl Nodes {
     }
 
     /// Links the node of this index to the one after it in the list at this place.
+    #[inline(always)]
     pub fn set_after(&mut self, place: usize, index: u64, after: u64)
         requires { place < 6 }
         ensures here { after_at self.new place index ≡ after }

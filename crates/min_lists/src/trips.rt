@@ -23,6 +23,7 @@ impl Model for Trip {
 
 impl Trip {
     /// The round trip of so many counts.
+    #[inline(always)]
     pub fn new(counts: u64) -> Trip
         ensures { result ≡ counts }
     {
@@ -30,6 +31,7 @@ impl Trip {
     }
 
     /// Compares two round trips, in one step.
+    #[inline(always)]
     pub fn is_at_most<L: Ledger>(self, other: Trip, steps: &mut Steps<L>) -> bool
         ensures value { IsTrue result ↔ (self ≤ other) }
         ensures step { steps.new ≡ steps.old + 1 }

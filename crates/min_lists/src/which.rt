@@ -21,6 +21,7 @@ pub enum Which {
 
 impl Which {
     /// Its place among the six.
+    #[inline(always)]
     pub(crate) fn place(self) -> usize
         ensures value { result ≡ place self }
         ensures within { result < 6 }

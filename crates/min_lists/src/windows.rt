@@ -30,6 +30,7 @@ impl Window {
     }
 
     // With one more index, and the first of least round trip there.
+    #[inline(always)]
     fn longer(self, head: u64) -> Window
         requires { self.to < 2 ^ 62 }
         ensures from { result.from ≡ self.from }
@@ -45,6 +46,7 @@ impl Window {
 
     // One more than the index of the latest round trip in the window that isn't above the next one.
     // At most the left end where there is none.
+    #[inline(always)]
     fn before_next<L: Ledger>(self, nodes: &Nodes, place: usize, steps: &mut Steps<L>) -> u64
         requires place { place < 6 }
         requires linked { AreLinked nodes.now place self }
@@ -66,6 +68,7 @@ impl Window {
     }
 
     // Ends the list with the next index, behind `last`.
+    #[inline(always)]
     fn link_behind(self, nodes: &mut Nodes, place: usize, last: u64) -> Window
         requires place { place < 6 }
         requires linked { AreLinked nodes.old place self }
@@ -81,6 +84,7 @@ impl Window {
     }
 
     // Begins the list anew with the next index, since all that are in the window are above it.
+    #[inline(always)]
     fn link_alone(self, nodes: &mut Nodes, place: usize, before: u64) -> Window
         requires place { place < 6 }
         requires linked { AreLinked nodes.old place self }
@@ -95,6 +99,7 @@ impl Window {
     }
 
     /// With the next index, which ends the list behind the last that isn't above it.
+    #[inline(always)]
     pub fn enter<L: Ledger>(self, nodes: &mut Nodes, place: usize, steps: &mut Steps<L>) -> Window
         requires place { place < 6 }
         requires linked { AreLinked nodes.old place self }
@@ -114,6 +119,7 @@ impl Window {
     }
 
     /// With a later left end. The list begins where it has the first index from there on.
+    #[inline(always)]
     pub fn cut(self, nodes: &Nodes, place: usize, from: u64) -> Window
         requires place { place < 6 }
         requires linked { AreLinked nodes.now place self }
@@ -138,6 +144,7 @@ impl Window {
     }
 
     /// The first of least round trip. `None` comes where the window is empty.
+    #[inline(always)]
     pub fn least(self) -> Option<u64>
         ensures none { IsNone result ↔ (self.to ≤ self.from) }
         ensures head { IfSome result (λ i. (self.from < self.to) × (i ≡ self.head)) }

@@ -49,6 +49,7 @@ impl Sums {
 
     /// The sums over so many terms of a weight from 1 to 65536, each with twice its time and twice its
     /// spread below 2^98 grains: their weights, and by these the times and the spreads.
+    #[inline(always)]
     pub fn of(added: u32, weight: u32, time: u128, spread: u128) -> Sums
         requires { IsBounded added weight time spread }
         ensures { result ≡ record { added = added; weight = weight; time = time; spread = spread } }
@@ -87,6 +88,7 @@ impl Sums {
     /// weights sum to 0.
     ///
     /// After the weighted offset estimate of Veitch, Ridoux and Korada.
+    #[inline(always)]
     #[tactic(auto, using(crate::proofs::MeanLaws::mean_of_none, crate::proofs::MeanLaws::mean_of_some, crate::proofs::MeanLaws::mean_below))]
     pub fn time(&self) -> Option<(Bintime, u128)>
         ensures mean { (terms : List Term) → StandsFor self.now terms → numbers_of result ≡ mean_of terms }

@@ -23,6 +23,7 @@ const ROWS: u64 = 25;
 const ROWS_OF_SCALE: u64 = 8;
 
 // The entry of a row, and 0 behind the last one.
+#[inline(always)]
 fn weight_of_row(row: u64) -> u32
     ensures { result ≡ slice_index_or table row 0 }
 {
@@ -38,6 +39,7 @@ fn weight_of_row(row: u64) -> u32
 /// The excess grows by one count for each 2^23 counts of age, since an old exchange says less of
 /// now, and each eighth of the scale is a row of `WEIGHTS`. The weight is 0 from row 25 on. After
 /// the point errors of Veitch, Ridoux and Korada.
+#[inline(always)]
 #[tactic(auto, unfolding(crate::specs::Weights::weight_of))]
 pub fn weight(excess: u64, age: u64, freq: u64) -> u32
     requires excess { excess < 2 ^ 40 }
@@ -50,6 +52,7 @@ pub fn weight(excess: u64, age: u64, freq: u64) -> u32
 }
 
 /// An excess from which on no exchange has a weight, however young it is.
+#[inline(always)]
 #[tactic(auto, unfolding(crate::specs::Weights::weight_of), using(crate::proofs::WeightLaws::row_past))]
 pub fn weightless_from(freq: u64) -> u64
     requires { freq ≤ 16000000000 }

@@ -24,7 +24,7 @@ pub took_more : {S : Type 0} (left : S → Option (List ℕ)) (faults : S → �
     (old mid new : S) (text room filled : List ℕ) (n : ℕ)
     → ReadConsumes {E = Failed} (left mid) (left new) (Ok n) filled → HasCause {T = ℕ} {E = Failed} (faults mid) (faults new) (Ok n)
     → Took left faults pull size old text mid → 0 < n → length room ≡ size → pull mid room (Ok n) filled new
-        → Took left faults pull size old (text ++ take n filled) new
+    → Took left faults pull size old (text ++ take n filled) new
 took_more left faults pull size old mid new text room filled n consumes cause took some sized gives = record {
   pulls = pulls.one_more text (take n filled) n mid new took.pulls some (record { room = room; filled = filled; sized = sized; gives = gives; front = refl });
   bytes = Consumes-trans (left old) (left mid) (left new) text (take n filled) took.bytes consumes.0;
@@ -58,15 +58,17 @@ front-same old new xs ys e h = let P : List ℕ → Type 0 = λ zs. AppendsFront
 front_second : (a b c : Option (List ℕ)) (xs ys zs : List ℕ) → Appends a b xs → AppendsFront b c ys → AppendsFront a c (xs ++ (ys ++ zs))
 front_second a b c xs ys zs h k =
     let same : xs ++ take k.0 ys ≡ take (length xs + k.0) (xs ++ (ys ++ zs)) = ap (λ (bs : List ℕ). xs ++ bs) (sym (take-append-le k.0 ys zs k.1))
-        ∙ sym (take-append-add xs (ys ++ zs) k.0) in
-    (length xs + k.0, omega (arith, k.1, length-append xs (ys ++ zs), length-append ys zs),
-        subst (Appends a c) same (Appends-trans a b c xs (take k.0 ys) h k.2))
+    ∙ sym (take-append-add xs (ys ++ zs) k.0) in (
+      length xs + k.0,
+      omega (arith, k.1, length-append xs (ys ++ zs), length-append ys zs),
+      subst (Appends a c) same (Appends-trans a b c xs (take k.0 ys) h k.2),
+    )
 
 -- the push of a piece failed
 pub broke : {K : Type 0} (written : K → Option (List ℕ)) (faults : K → ℕ) (push : K → List ℕ → Result (Unit {0}) Failed → K → Type 0)
     (old mid new : K) (front : List (List ℕ)) (piece : List ℕ) (rest : List (List ℕ))
     → PushAppends {T = Unit {0}} {E = Failed} (written mid) (written new) (Err (record {})) piece
-        → HasCause {T = Unit {0}} {E = Failed} (faults mid) (faults new) (Err (record {}))
+    → HasCause {T = Unit {0}} {E = Failed} (faults mid) (faults new) (Err (record {}))
     → Wrote written faults push old front mid → push mid piece (Err (record {})) new → Broke written faults push old (front ++ piece ∷ rest) new
 broke written faults push old mid new front piece rest appends cause wrote gives = record {
   front = front;

@@ -27,8 +27,14 @@ untold (Err e) piece = (0, omega arith, tt)
 module _ {K : Type 0} (written : K → Option (List ℕ)) (faults : K → ℕ) (push : K → List ℕ → Result (Unit {0}) Failed → K → Type 0) where
   -- nothing was pushed yet
   pub hands-none : (g : Gathering K) → g.faults ≡ 0 → HandsOn written faults push g [] g
-  hands-none g sound = record { blocks = []; whole = All-nil IsBlock; wrote = wrote_nothing written faults push g.sink; bytes = append-nil g.block;
-      sound = sound; same = sound }
+  hands-none g sound = record {
+    blocks = [];
+    whole = All-nil IsBlock;
+    wrote = wrote_nothing written faults push g.sink;
+    bytes = append-nil g.block;
+    sound = sound;
+    same = sound;
+  }
 
   -- bytes that make no whole block are held
   pub hands-held : (old new : Gathering K) (front : List ℕ) → old.faults ≡ 0 → new.faults ≡ 0 → new.sink ≡ old.sink → new.block ≡ old.block ++ front
@@ -45,7 +51,7 @@ module _ {K : Type 0} (written : K → Option (List ℕ)) (faults : K → ℕ) (
   -- a whole block is handed on
   pub hands-block : (old new : Gathering K) (front : List ℕ) → old.faults ≡ 0 → new.faults ≡ 0 → new.block ≡ [] → IsBlock (old.block ++ front)
       → PushAppends {T = Unit {0}} {E = Failed} (written old.sink) (written new.sink) (Ok tt) (old.block ++ front)
-          → HasCause {T = Unit {0}} {E = Failed} (faults old.sink) (faults new.sink) (Ok tt)
+      → HasCause {T = Unit {0}} {E = Failed} (faults old.sink) (faults new.sink) (Ok tt)
       → push old.sink (old.block ++ front) (Ok tt) new.sink → HandsOn written faults push old front new
   hands-block old new front sound same none sized appends cause gives = record {
     blocks = (old.block ++ front) ∷ [];
@@ -60,7 +66,7 @@ module _ {K : Type 0} (written : K → Option (List ℕ)) (faults : K → ℕ) (
   -- its push fails
   pub stops-block : (old new : Gathering K) (front : List ℕ) → old.faults ≡ 0 → new.faults ≡ 1
       → PushAppends {T = Unit {0}} {E = Failed} (written old.sink) (written new.sink) (Err (record {})) (old.block ++ front)
-          → HasCause {T = Unit {0}} {E = Failed} (faults old.sink) (faults new.sink) (Err (record {}))
+      → HasCause {T = Unit {0}} {E = Failed} (faults old.sink) (faults new.sink) (Err (record {}))
       → push old.sink (old.block ++ front) (Err (record {})) new.sink → StopsAt written faults push old front new
   stops-block old new front sound counted appends cause gives = record {
     blocks = (old.block ++ front) ∷ [];
@@ -74,21 +80,21 @@ module _ {K : Type 0} (written : K → Option (List ℕ)) (faults : K → ℕ) (
   pub block-ok : (old new : Gathering K) (front block : List ℕ) (r : Result (Unit {0}) Failed) → old.faults ≡ 0 → new.faults ≡ 0 → new.block ≡ []
       → block ≡ old.block ++ front → length block ≡ 65536
       → PushAppends (written old.sink) (written new.sink) r block → HasCause (faults old.sink) (faults new.sink) r → push old.sink block r new.sink
-          → OnOk r (HandsOn written faults push old front new)
+      → OnOk r (HandsOn written faults push old front new)
   block-ok old new front block (Ok o) sound same none is sized appends cause gives =
       let P : List ℕ → Type 0 = λ bs. (length bs ≡ 65536) × PushAppends {T = Unit {0}} {E = Failed} (written old.sink) (written new.sink) (Ok tt) bs
-          × push old.sink bs (Ok tt) new.sink in
+      × push old.sink bs (Ok tt) new.sink in
       let at = subst P is (sized, appends, gives) in
       hands-block old new front sound same none at.0 at.1 cause at.2
   block-ok old new front block (Err e) sound same none is sized appends cause gives = tt
 
   pub block-err : (old new : Gathering K) (front block : List ℕ) (r : Result (Unit {0}) Failed) → old.faults ≡ 0 → new.faults ≡ 1 → block ≡ old.block ++ front
       → PushAppends (written old.sink) (written new.sink) r block → HasCause (faults old.sink) (faults new.sink) r → push old.sink block r new.sink
-          → OnErr r (StopsAt written faults push old front new)
+      → OnErr r (StopsAt written faults push old front new)
   block-err old new front block (Ok o) sound counted is appends cause gives = tt
   block-err old new front block (Err e) sound counted is appends cause gives =
       let P : List ℕ → Type 0 = λ bs. PushAppends {T = Unit {0}} {E = Failed} (written old.sink) (written new.sink) (Err (record {})) bs
-          × push old.sink bs (Err (record {})) new.sink in
+      × push old.sink bs (Err (record {})) new.sink in
       let at = subst P is (appends, gives) in
       stops-block old new front sound counted at.0 cause at.1
 
@@ -160,9 +166,9 @@ module _ {K : Type 0} (written : K → Option (List ℕ)) (faults : K → ℕ) (
       → StopsAt written faults push mid (take n rest) new → StopsAt written faults push old piece new
   taking-stops old mid new piece rest n t stops =
       let whole : (t.front ++ take n rest) ++ drop n rest ≡ piece = append_assoc t.front (take n rest) (drop n rest)
-          ∙ ap (λ (bs : List ℕ). t.front ++ bs) (take-append-drop n rest) ∙ sym t.cut in
+      ∙ ap (λ (bs : List ℕ). t.front ++ bs) (take-append-drop n rest) ∙ sym t.cut in
       subst (λ bs. StopsAt written faults push old bs new) whole (stops-early old new (t.front ++ take n rest) (drop n rest)
-          (stops-on old mid new t.front (take n rest) t.hands stops))
+      (stops-on old mid new t.front (take n rest) t.hands stops))
 
   -- what many pushes hand on
   pushes-hand : (old : Gathering K) (pieces : List (List ℕ)) (new : Gathering K) → old.faults ≡ 0
@@ -170,7 +176,7 @@ module _ {K : Type 0} (written : K → Option (List ℕ)) (faults : K → ℕ) (
   pushes-hand old pieces new sound no_push = hands-none old sound
   pushes-hand old all new sound (pushes.one_more pieces piece mid end then gives) =
       subst (λ bs. HandsOn written faults push old bs new) (sym (concat-push pieces piece))
-          (hands-on old mid new (concat pieces) piece (pushes-hand old pieces mid sound then) gives.hands)
+      (hands-on old mid new (concat pieces) piece (pushes-hand old pieces mid sound then) gives.hands)
 
   -- lines that were pushed are written in blocks once all is closed
   pub wrote-in-blocks : (told : Gathering K → Option (List ℕ)) (counted : Gathering K → ℕ) (sink : K) (old mid : Gathering K) (lines : List (List ℕ))
@@ -199,10 +205,10 @@ module _ {K : Type 0} (written : K → Option (List ℕ)) (faults : K → ℕ) (
   broke-in-blocks told counted sink old mid lines r new fresh broken closes =
       let hands = pushes-hand old broken.front broken.mid fresh.faults broken.pushes in
       let stops = stops-on old broken.mid mid (concat broken.front) broken.failed hands
-          (stops-last broken.mid mid broken.failed hands.same broken.last.hands) in
+      (stops-last broken.mid mid broken.failed hands.same broken.last.hands) in
       let all = stops-early old mid (concat broken.front ++ broken.failed) (concat broken.rest) stops in
       let whole : (concat broken.front ++ broken.failed) ++ concat broken.rest ≡ concat lines = append_assoc (concat broken.front) broken.failed
-          (concat broken.rest) ∙ sym (concat-append broken.front (broken.failed ∷ broken.rest)) ∙ ap concat (sym broken.cut) in
+      (concat broken.rest) ∙ sym (concat-append broken.front (broken.failed ∷ broken.rest)) ∙ ap concat (sym broken.cut) in
       record {
         blocks = all.blocks;
         bytes = sym all.bytes ∙ ap (λ (bs : List ℕ). old.block ++ bs) whole ∙ ap (λ (bs : List ℕ). bs ++ concat lines) fresh.block;
@@ -237,11 +243,15 @@ module _ {K : Type 0} (written : K → Option (List ℕ)) (faults : K → ℕ) (
   -- the last block
   pub closes-last : (seen old : Gathering K) (block : List ℕ) (r : Result (Unit {0}) Failed) (new : K) → seen ≡ old → seen.faults ≡ 0 → block ≡ seen.block
       → PushAppends (written seen.sink) (written new) r block → HasCause (faults seen.sink) (faults new) r → push seen.sink block r new
-          → Closes written faults push old r new
+      → Closes written faults push old r new
   closes-last seen old block r new is sound held appends cause gives =
       let here : Closes written faults push seen r new = record {
-        sound = λ _. (block ∷ [], append-nil block ∙ held, writes_last written faults push seen.sink seen.sink new [] block r appends cause
-            (wrote_nothing written faults push seen.sink) gives);
+        sound = λ _. (
+          block ∷ [],
+          append-nil block ∙ held,
+          writes_last written faults push seen.sink seen.sink new [] block r appends cause
+              (wrote_nothing written faults push seen.sink) gives,
+        );
         failed = λ some. absurd (omega (arith, some, sound));
       } in
       subst (λ g. Closes written faults push g r new) is here

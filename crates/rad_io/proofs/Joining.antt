@@ -15,7 +15,7 @@ pushes-on : {K : Type 0} (push : K → List ℕ → Result (Unit {0}) Failed →
 pushes-on push old mid front rest new first no_push = subst (λ ls. Pushes push old ls mid) (sym (append-nil front)) first
 pushes-on push old mid front rest new first (pushes.one_more pieces piece last end then gives) =
     subst (λ ls. Pushes push old ls new) (append_assoc front pieces (piece ∷ []))
-        (pushes.one_more (front ++ pieces) piece last new (pushes-on push old mid front pieces last first then) gives)
+    (pushes.one_more (front ++ pieces) piece last new (pushes-on push old mid front pieces last first then) gives)
 
 module _ {K : Type 0} (written : K → Option (List ℕ)) (faults : K → ℕ) (push : K → List ℕ → Result (Unit {0}) Failed → K → Type 0) where
   -- one part, and the next
@@ -34,7 +34,7 @@ module _ {K : Type 0} (written : K → Option (List ℕ)) (faults : K → ℕ) (
   broke-on old mid new front rest first then =
       let n = then.bytes.0 in
       let cut : concat front ++ take n (concat rest) ≡ take (length (concat front) + n) (concat (front ++ rest)) = sym
-          (ap (take (length (concat front) + n)) (concat-append front rest) ∙ take-append-add (concat front) (concat rest) n) in
+      (ap (take (length (concat front) + n)) (concat-append front rest) ∙ take-append-add (concat front) (concat rest) n) in
       record {
         front = front ++ then.front;
         failed = then.failed;
@@ -43,9 +43,17 @@ module _ {K : Type 0} (written : K → Option (List ℕ)) (faults : K → ℕ) (
         mid = then.mid;
         pushes = pushes-on push old mid front then.front then.mid first.pushes then.pushes;
         last = then.last;
-        bytes = (length (concat front) + n, omega (arith, then.bytes.1, ap (λ (bs : List ℕ). length bs) (concat-append front rest),
-            length-append (concat front) (concat rest)), subst (Appends (written old) (written new)) cut
-            (Appends-trans (written old) (written mid) (written new) (concat front) (take n (concat rest)) first.bytes then.bytes.2));
+        bytes = (
+          length (concat front) + n,
+          omega (
+            arith,
+            then.bytes.1,
+            ap (λ (bs : List ℕ). length bs) (concat-append front rest),
+            length-append (concat front) (concat rest),
+          ),
+          subst (Appends (written old) (written new)) cut
+              (Appends-trans (written old) (written mid) (written new) (concat front) (take n (concat rest)) first.bytes then.bytes.2),
+        );
         later = omega (arith, then.later, first.same);
         rose = omega (arith, then.rose, first.same);
       }
@@ -55,7 +63,7 @@ module _ {K : Type 0} (written : K → Option (List ℕ)) (faults : K → ℕ) (
   broke-early old new front rest broken =
       let n = broken.bytes.0 in
       let cut : take n (concat front) ≡ take n (concat (front ++ rest)) = sym
-          (ap (take n) (concat-append front rest) ∙ take-append-le n (concat front) (concat rest) broken.bytes.1) in
+      (ap (take n) (concat-append front rest) ∙ take-append-le n (concat front) (concat rest) broken.bytes.1) in
       record {
         front = broken.front;
         failed = broken.failed;
@@ -64,8 +72,16 @@ module _ {K : Type 0} (written : K → Option (List ℕ)) (faults : K → ℕ) (
         mid = broken.mid;
         pushes = broken.pushes;
         last = broken.last;
-        bytes = (n, omega (arith, broken.bytes.1, ap (λ (bs : List ℕ). length bs) (concat-append front rest),
-            length-append (concat front) (concat rest)), subst (Appends (written old) (written new)) cut broken.bytes.2);
+        bytes = (
+          n,
+          omega (
+            arith,
+            broken.bytes.1,
+            ap (λ (bs : List ℕ). length bs) (concat-append front rest),
+            length-append (concat front) (concat rest),
+          ),
+          subst (Appends (written old) (written new)) cut broken.bytes.2,
+        );
         later = broken.later;
         rose = broken.rose;
       }

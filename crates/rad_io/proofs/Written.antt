@@ -39,11 +39,11 @@ pub passed_more : {W E : Type 0} (written : W → Option (List ℕ)) (writes : W
     (piece left : List ℕ) (answer : Result ℕ E) (before now n : ℕ)
     → EachWrite writes (λ old new bytes r. WriteAppends (written old) (written new) r bytes)
     → Passed written writes old piece left mid → writes mid left answer new → Settles TakesNothing answer before now (Ok n)
-        → Passed written writes old piece (take (length left - n) (drop n left)) new
+    → Passed written writes old piece (take (length left - n) (drop n left)) new
 passed_more {W} {E} written writes old mid new piece left answer before now n appends passed gives settled =
     let is : answer ≡ Ok n = settled.count in
     let more : Taken writes old piece (drop n left) new = streams.one_more left n mid new passed.taken (took_some answer before now n settled)
-        (subst (λ (a : Result ℕ E). writes mid left a new) is gives) in
+    (subst (λ (a : Result ℕ E). writes mid left a new) is gives) in
     record {
       taken = subst (λ (rest : List ℕ). Taken writes old piece rest new) (sym (rest_from left n)) more;
       front = passed.front ++ take n left;
@@ -76,14 +76,14 @@ pub halts : {W E : Type 0} (written : W → Option (List ℕ)) (writes : W → L
     (faults before now : ℕ) (answer : Result ℕ E) (failed : Failed) (result : Result (Unit {0}) Failed)
     → EachWrite writes (λ old new bytes r. WriteAppends (written old) (written new) r bytes)
     → before ≡ faults → Passed written writes old piece left mid → 0 < length left → writes mid left answer new
-        → Settles TakesNothing answer before now (Err failed) → IsErr result
+    → Settles TakesNothing answer before now (Err failed) → IsErr result
     → WriterGives written writes old piece faults now result new
 halts written writes old mid new piece left faults before now answer failed (Ok o) appends same passed some last settled is = absurd (search rules)
 halts written writes old mid new piece left faults before now answer failed (Err e) appends same passed some last settled is =
     let stop : TakesNothing answer = settled.fails.0 refl in
     let kept : Keeps (written mid) (written new) = nothing_taken (written mid) (written new) left answer stop (appends mid new left answer last) in
     let cause : HasCause {T = Unit {0}} {E = Failed} before now
-        (Err failed) = record { later = settled.cause.later; failed = settled.cause.failed; kept = tt } in
+    (Err failed) = record { later = settled.cause.later; failed = settled.cause.failed; kept = tt } in
     record {
       made = record { rest = left; mid = mid; answer = answer; before = passed.taken; some = some; last = last; stop = stop };
       empty = λ none. absurd (omega (arith, ap length none, ap length passed.cut, length-append passed.front left, some));

@@ -23,6 +23,7 @@ impl Rate {
 
     /// By how much the period may be wrong, in grains per count: its distance from the bound that is
     /// farther away.
+    #[inline(always)]
     pub fn error(&self) -> u64
         ensures { result ≡ rate_error self.now }
     {

@@ -8,6 +8,7 @@ use clock_lines::{Entry, Kind, Reading};
 use rad_io::{Failed, Sink};
 
 // Adds the reader and the number of an attempt.
+#[inline(always)]
 #[tactic(auto, unfolding(crate::specs::Text::attempt_part))]
 fn add_attempt_part(line: &mut LineText, reader: u32, k: u32)
     requires { length line.old + 82 ≤ 640 }
@@ -21,6 +22,7 @@ fn add_attempt_part(line: &mut LineText, reader: u32, k: u32)
 }
 
 // Adds a reading.
+#[inline(always)]
 #[tactic(auto, unfolding(crate::specs::Text::reading_part))]
 fn add_reading_part(line: &mut LineText, r: &Reading)
     requires { length line.old + 240 ≤ 640 }
@@ -35,6 +37,7 @@ fn add_reading_part(line: &mut LineText, r: &Reading)
     line.word(kind_name(r.kind));
 }
 
+#[inline(always)]
 #[tactic(auto, unfolding(crate::specs::Text::entry_text))]
 fn add_whole_reading(line: &mut LineText, reader: u32, k: u32, r: &Reading)
     requires { line.old ≡ [] }
@@ -83,6 +86,7 @@ fn add_ahead(line: &mut LineText, reader: u32, k: u32, count: u64, at: u64)
     line.word(b"ahead ");
 }
 
+#[inline(always)]
 fn add_entry(line: &mut LineText, reader: u32, k: u32, e: &Entry)
     requires { line.old ≡ [] }
     ensures { line.new ≡ entry_text reader k e.now }
@@ -97,10 +101,16 @@ fn add_entry(line: &mut LineText, reader: u32, k: u32, e: &Entry)
 
 /// Pushes the line of the attempt `k` of a reader, both counted from 0. Counts and bounds stand as
 /// the reader noted them.
-pub fn entry_line<K: Sink>(sink: &mut K, reader: u32, k: u32, e: &Entry) -> Result<(), Failed>
+pub fn entry_line<K: Sink>(
+    sink: &mut K,
+    line: &mut LineText,
+    reader: u32,
+    k: u32,
+    e: &Entry,
+) -> Result<(), Failed>
     ensures { K.push_gives sink.old (entry_text reader k e.now) result sink.new }
 {
-    let mut line = LineText::new();
-    add_entry(&mut line, reader, k, e);
+    line.clear();
+    add_entry(line, reader, k, e);
     sink.push(line.bytes())
 }

@@ -13,6 +13,7 @@ mod tests;
 
 pub use entries::entry_line;
 pub use laws::{made_files_are_read, made_lines_are_read};
+pub use line::LineText;
 pub use lines::{
     EndCounts, FaultText, Limit, ReportHead, Summary, base_line, end_line, estimate_line,
     fault_line, head_line, ideal_line, leap_line, refused_line, set_line, stamp_line, summary_line,

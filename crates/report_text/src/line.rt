@@ -14,6 +14,7 @@ const MOST: usize = 640;
 const ZEROS: &[u8] = b"000000000";
 
 // The zeros in front of so many digits that make them nine.
+#[inline(always)]
 #[tactic(auto, using(crate::proofs::Digits::dropped_zeros))]
 fn leading_zeros(digits: usize) -> &'static [u8]
     requires { digits ≤ 9 }
@@ -55,7 +56,16 @@ impl LineText {
         }
     }
 
+    /// Takes all bytes away.
+    #[inline(always)]
+    pub fn clear(&mut self)
+        ensures { self.new ≡ [] }
+    {
+        self.start = MOST;
+    }
+
     // How many bytes there are.
+    #[inline(always)]
     fn len(&self) -> usize
         ensures { result ≡ length self.now }
     {
@@ -63,6 +73,7 @@ impl LineText {
     }
 
     /// Puts these bytes in front.
+    #[inline(always)]
     pub fn word(&mut self, word: &[u8])
         requires { length self.old + length word.now ≤ 640 }
         ensures { self.new ≡ word.now ++ self.old }
@@ -73,6 +84,7 @@ impl LineText {
     }
 
     /// Puts a number in digits in front.
+    #[inline(always)]
     #[tactic(auto, using(crate::proofs::Digits::most_digits))]
     pub fn number(&mut self, n: u64)
         requires { length self.old + 20 ≤ 640 }
@@ -83,6 +95,7 @@ impl LineText {
     }
 
     /// Puts a number in digits in front, and its sign where it is below 0.
+    #[inline(always)]
     pub fn signed(&mut self, n: i64)
         requires { length self.old + 21 ≤ 640 }
         ensures text { self.new ≡ signed_decimal n ++ self.old }
@@ -95,6 +108,7 @@ impl LineText {
     }
 
     /// Puts a number in digits in front, of up to 128 bits.
+    #[inline(always)]
     pub fn wide(&mut self, n: u128)
         requires { length self.old + 40 ≤ 640 }
         ensures text { self.new ≡ decimal n ++ self.old }
@@ -107,6 +121,7 @@ impl LineText {
     }
 
     /// Puts a time in front: its seconds, a plus sign, and its grains below one second.
+    #[inline(always)]
     pub fn time(&mut self, t: Bintime)
         requires { length self.old + 81 ≤ 640 }
         ensures text { self.new ≡ time_text t ++ self.old }
@@ -118,6 +133,7 @@ impl LineText {
     }
 
     /// Puts a space and a number in front.
+    #[inline(always)]
     pub fn column(&mut self, n: u64)
         requires { length self.old + 21 ≤ 640 }
         ensures text { self.new ≡ codes " " ++ decimal n ++ self.old }
@@ -128,6 +144,7 @@ impl LineText {
     }
 
     /// Puts a space and a time in front.
+    #[inline(always)]
     pub fn time_column(&mut self, t: Bintime)
         requires { length self.old + 82 ≤ 640 }
         ensures text { self.new ≡ codes " " ++ time_text t ++ self.old }
@@ -138,6 +155,7 @@ impl LineText {
     }
 
     /// Puts 1 in front where it is so, and 0 where it is not.
+    #[inline(always)]
     pub fn flag(&mut self, is: bool)
         requires { length self.old + 1 ≤ 640 }
         ensures text { self.new ≡ flag_text is ++ self.old }
@@ -147,6 +165,7 @@ impl LineText {
     }
 
     /// Puts a letter in front where it is so, and a dash where it is not.
+    #[inline(always)]
     pub fn letter(&mut self, letter: &[u8], is: bool)
         requires room { length self.old + 1 ≤ 640 }
         requires one { length letter.now ≡ 1 }
@@ -157,6 +176,7 @@ impl LineText {
     }
 
     /// Puts a word in front where it is so.
+    #[inline(always)]
     pub fn mark(&mut self, word: &[u8], is: bool)
         requires { length self.old + length word.now ≤ 640 }
         ensures text { self.new ≡ mark_text word.now is ++ self.old }
@@ -168,6 +188,7 @@ impl LineText {
     }
 
     /// Puts a word and a number in front, where there is one.
+    #[inline(always)]
     pub fn count(&mut self, word: &[u8], count: Option<u64>)
         requires { length self.old + length word.now + 40 ≤ 640 }
         ensures text { self.new ≡ count_text word.now count ++ self.old }
@@ -180,6 +201,7 @@ impl LineText {
     }
 
     /// Puts nanoseconds below 10^9 in front, in nine digits with leading zeros.
+    #[inline(always)]
     #[tactic(auto, using(crate::proofs::Digits::few_digits))]
     pub fn nanos(&mut self, nanos: u32)
         requires room { length self.old + 20 ≤ 640 }
@@ -194,6 +216,7 @@ impl LineText {
 
     /// Puts a time in front as a stamp file has it: its seconds, a point, and the nanoseconds below
     /// 10^9.
+    #[inline(always)]
     pub fn written(&mut self, t: (u64, u32))
         requires room { length self.old + 50 ≤ 640 }
         requires below { t.1 < 1000000000 }
@@ -205,6 +228,8 @@ impl LineText {
         self.number(t.0);
     }
 
+    /// The bytes.
+    #[inline(always)]
     pub fn bytes(&self) -> &[u8]
         ensures { result.now ≡ self.now }
     {

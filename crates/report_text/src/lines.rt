@@ -1,5 +1,6 @@
 // The kinds of line, each made from its end. A line's push fails exactly where the sink's push of its
-// text does.
+// text does. Lines that a report has many of are made in a text that is lent to them, so that its bytes are
+// filled once for all of them.
 ghost use Rattle.std.specs.Prelude.{◌≡◌, ◌≤◌, ◌+◌, ◌++◌, length};
 ghost use Rattle.report_text.specs.Text.{version_part, flags_part, options_part, head_text, server_part, stamp_text, base_text, time_part, spread_part, told_leaps_part, estimate_text, set_text, leap_text, clock_part, given_part, leap_part, tick_text, refused_text, summary_text, ideal_text, end_text, fault_text};
 
@@ -230,6 +231,7 @@ pub fn head_line<K: Sink>(sink: &mut K, h: &ReportHead) -> Result<(), Failed>
 }
 
 // Adds what a stamp of version 2 says of its server.
+#[inline(always)]
 #[tactic(auto, unfolding(crate::specs::Text::server_part))]
 fn add_server_part(line: &mut LineText, version: u32, s: &Stamp)
     requires { length line.old + 42 ≤ 640 }
@@ -245,13 +247,19 @@ fn add_server_part(line: &mut LineText, version: u32, s: &Stamp)
 /// Pushes the line of the accepted stamp with the index `i`, from 0, and with its round trip in
 /// counts. Where the file is of version 2 it ends with what the stamp says of its server.
 #[tactic(auto, unfolding(crate::specs::Text::stamp_text))]
-pub fn stamp_line<K: Sink>(sink: &mut K, i: u64, s: &Stamp, version: u32) -> Result<(), Failed>
+pub fn stamp_line<K: Sink>(
+    sink: &mut K,
+    line: &mut LineText,
+    i: u64,
+    s: &Stamp,
+    version: u32,
+) -> Result<(), Failed>
     requires { s.now.ta ≤ s.now.tf }
     ensures { K.push_gives sink.old (stamp_text i s.now version) result sink.new }
 {
-    let mut line = LineText::new();
+    line.clear();
     line.word(b"\n");
-    add_server_part(&mut line, version, s);
+    add_server_part(line, version, s);
     line.column(s.tf - s.ta);
     line.column(s.tf);
     line.time_column(s.te);
@@ -265,10 +273,16 @@ pub fn stamp_line<K: Sink>(sink: &mut K, i: u64, s: &Stamp, version: u32) -> Res
 /// Pushes the line of the accepted stamp with the index `i`, from 0, with its round trip `rtt` in
 /// counts, and what is said of the base.
 #[tactic(auto, unfolding(crate::specs::Text::base_text))]
-pub fn base_line<K: Sink>(sink: &mut K, i: u64, rtt: u64, b: &Base) -> Result<(), Failed>
+pub fn base_line<K: Sink>(
+    sink: &mut K,
+    line: &mut LineText,
+    i: u64,
+    rtt: u64,
+    b: &Base,
+) -> Result<(), Failed>
     ensures { K.push_gives sink.old (base_text i rtt b.now) result sink.new }
 {
-    let mut line = LineText::new();
+    line.clear();
     line.word(b"\n");
     line.flag(b.shifted);
     line.word(b" ");
@@ -281,6 +295,7 @@ pub fn base_line<K: Sink>(sink: &mut K, i: u64, rtt: u64, b: &Base) -> Result<()
 }
 
 // Adds an estimate: the time at a count, the period, their errors, and the marks.
+#[inline(always)]
 #[tactic(auto, unfolding(crate::specs::Text::time_part))]
 fn add_time_part(line: &mut LineText, e: &Estimate)
     requires { length line.old + 240 ≤ 640 }
@@ -297,6 +312,7 @@ fn add_time_part(line: &mut LineText, e: &Estimate)
 }
 
 // Adds what stands behind an estimate: the spread, the bounds of the period, and the flags.
+#[inline(always)]
 #[tactic(auto, unfolding(crate::specs::Text::spread_part))]
 fn add_spread_part(line: &mut LineText, f: &Full)
     requires { length line.old + 240 ≤ 640 }
@@ -313,6 +329,7 @@ fn add_spread_part(line: &mut LineText, f: &Full)
 }
 
 // Adds leap seconds: when the next one is due, how many there were, and which it is.
+#[inline(always)]
 #[tactic(auto, unfolding(crate::specs::Text::leap_part))]
 fn add_leap_part(line: &mut LineText, e: &Estimate)
     requires { length line.old + 122 ≤ 640 }
@@ -327,6 +344,7 @@ fn add_leap_part(line: &mut LineText, e: &Estimate)
 }
 
 // Adds those of an estimate of version 2.
+#[inline(always)]
 #[tactic(auto, unfolding(crate::specs::Text::told_leaps_part))]
 fn add_told_leaps_part(line: &mut LineText, version: u32, e: &Estimate)
     requires { length line.old + 123 ≤ 640 }
@@ -342,15 +360,21 @@ fn add_told_leaps_part(line: &mut LineText, version: u32, e: &Estimate)
 /// Pushes the line of the accepted stamp with the index `i`, from 0, with all that is said at it. Where the
 /// file is of version 2 it ends with what the estimate tells of leap seconds.
 #[tactic(auto, unfolding(crate::specs::Text::estimate_text))]
-pub fn estimate_line<K: Sink>(sink: &mut K, i: u64, f: &Full, version: u32) -> Result<(), Failed>
+pub fn estimate_line<K: Sink>(
+    sink: &mut K,
+    line: &mut LineText,
+    i: u64,
+    f: &Full,
+    version: u32,
+) -> Result<(), Failed>
     ensures { K.push_gives sink.old (estimate_text i f.now version) result sink.new }
 {
-    let mut line = LineText::new();
+    line.clear();
     line.word(b"\n");
-    add_told_leaps_part(&mut line, version, &f.est);
-    add_spread_part(&mut line, f);
+    add_told_leaps_part(line, version, &f.est);
+    add_spread_part(line, f);
     line.word(b" ");
-    add_time_part(&mut line, &f.est);
+    add_time_part(line, &f.est);
     line.word(b" ");
     line.number(i);
     line.word(b"estimate ");
@@ -359,10 +383,15 @@ pub fn estimate_line<K: Sink>(sink: &mut K, i: u64, f: &Full, version: u32) -> R
 
 /// Pushes the line of an accepted set at a count, with the time that the clock is set to.
 #[tactic(auto, unfolding(crate::specs::Text::set_text))]
-pub fn set_line<K: Sink>(sink: &mut K, count: u64, at: Bintime) -> Result<(), Failed>
+pub fn set_line<K: Sink>(
+    sink: &mut K,
+    line: &mut LineText,
+    count: u64,
+    at: Bintime,
+) -> Result<(), Failed>
     ensures { K.push_gives sink.old (set_text count at) result sink.new }
 {
-    let mut line = LineText::new();
+    line.clear();
     line.word(b"\n");
     line.time_column(at);
     line.number(count);
@@ -373,10 +402,15 @@ pub fn set_line<K: Sink>(sink: &mut K, count: u64, at: Bintime) -> Result<(), Fa
 /// Pushes the line of an accepted leap second behind a count: its sign is 1 where it is put in, and -1
 /// where it is left out.
 #[tactic(auto, unfolding(crate::specs::Text::leap_text))]
-pub fn leap_line<K: Sink>(sink: &mut K, count: u64, leap: i8) -> Result<(), Failed>
+pub fn leap_line<K: Sink>(
+    sink: &mut K,
+    line: &mut LineText,
+    count: u64,
+    leap: i8,
+) -> Result<(), Failed>
     ensures { K.push_gives sink.old (leap_text count leap) result sink.new }
 {
-    let mut line = LineText::new();
+    line.clear();
     line.word(b"\n");
     line.signed(i64::from(leap));
     line.word(b" ");
@@ -386,6 +420,7 @@ pub fn leap_line<K: Sink>(sink: &mut K, count: u64, leap: i8) -> Result<(), Fail
 }
 
 // Adds where the clocks stand.
+#[inline(always)]
 #[tactic(auto, unfolding(crate::specs::Text::clock_part))]
 fn add_clock_part(line: &mut LineText, h: &Hands)
     requires { length line.old + 300 ≤ 640 }
@@ -403,6 +438,7 @@ fn add_clock_part(line: &mut LineText, h: &Hands)
 }
 
 // Adds the estimate that the clocks go by.
+#[inline(always)]
 #[tactic(auto, unfolding(crate::specs::Text::given_part))]
 fn add_given_part(line: &mut LineText, e: &Estimate)
     requires { length line.old + 240 ≤ 640 }
@@ -420,16 +456,21 @@ fn add_given_part(line: &mut LineText, e: &Estimate)
 
 /// Pushes the line of the tick with the number `n`, from 0.
 #[tactic(auto, unfolding(crate::specs::Text::tick_text))]
-pub fn tick_line<K: Sink>(sink: &mut K, n: u64, h: &Hands) -> Result<(), Failed>
+pub fn tick_line<K: Sink>(
+    sink: &mut K,
+    line: &mut LineText,
+    n: u64,
+    h: &Hands,
+) -> Result<(), Failed>
     ensures { K.push_gives sink.old (tick_text n h.now) result sink.new }
 {
-    let mut line = LineText::new();
+    line.clear();
     line.word(b"\n");
-    add_leap_part(&mut line, &h.est);
+    add_leap_part(line, &h.est);
     line.word(b" ");
-    add_given_part(&mut line, &h.est);
+    add_given_part(line, &h.est);
     line.word(b" ");
-    add_clock_part(&mut line, h);
+    add_clock_part(line, h);
     line.word(b" ");
     line.number(n);
     line.word(b"tick ");
@@ -438,16 +479,21 @@ pub fn tick_line<K: Sink>(sink: &mut K, n: u64, h: &Hands) -> Result<(), Failed>
 
 /// Pushes the line of a refused item, with the number of its line in the file, from 1.
 #[tactic(auto, unfolding(crate::specs::Text::refused_text))]
-pub fn refused_line<K: Sink>(sink: &mut K, line: u64, why: Refused) -> Result<(), Failed>
-    ensures { K.push_gives sink.old (refused_text line why) result sink.new }
+pub fn refused_line<K: Sink>(
+    sink: &mut K,
+    line: &mut LineText,
+    number: u64,
+    why: Refused,
+) -> Result<(), Failed>
+    ensures { K.push_gives sink.old (refused_text number why) result sink.new }
 {
-    let mut text = LineText::new();
-    text.word(b"\n");
-    text.word(refused_name(why));
-    text.word(b" ");
-    text.number(line);
-    text.word(b"refused ");
-    sink.push(text.bytes())
+    line.clear();
+    line.word(b"\n");
+    line.word(refused_name(why));
+    line.word(b" ");
+    line.number(number);
+    line.word(b"refused ");
+    sink.push(line.bytes())
 }
 
 /// Pushes the summary of a run.

@@ -55,6 +55,7 @@ pub fn refused_name(why: Refused) -> &'static [u8]
 }
 
 /// Puts the letters of the marks that are set in front, or a dash.
+#[inline(always)]
 pub fn add_marks(line: &mut LineText, marks: Marks)
     requires { length line.old + 2 ≤ 640 }
     ensures text { line.new ≡ marks_text marks ++ line.old }
@@ -69,6 +70,7 @@ pub fn add_marks(line: &mut LineText, marks: Marks)
 }
 
 /// Puts in front how a tick came about.
+#[inline(always)]
 pub fn add_how(line: &mut LineText, how: How)
     requires { length line.old + 5 ≤ 640 }
     ensures text { line.new ≡ how_name how ++ line.old }
@@ -83,6 +85,7 @@ pub fn add_how(line: &mut LineText, how: How)
     }
 }
 
+#[inline(always)]
 pub fn kind_name(kind: Kind) -> &'static [u8]
     ensures name { result.now ≡ kind_name kind }
     ensures short { length result.now ≤ 6 }

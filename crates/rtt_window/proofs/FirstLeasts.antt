@@ -68,7 +68,7 @@ least-ge : (b : ℕ) (all : List Stamp) → 0 < length all → All (λ s. b ≤ 
 least-ge b [] some are = absurd (omega arith)
 least-ge b (s ∷ ss) some are = fold-min-ge b (trip s) (map trip ss) (All-head (λ s. b ≤ trip s) s ss are) (λ k d here.
     subst (λ n. b ≤ n) (sym (get_or-map trip ss k s d (omega (arith, length-map ss trip))))
-        (All-tail (λ s. b ≤ trip s) s ss are k s (omega (arith, length-map ss trip))))
+    (All-tail (λ s. b ≤ trip s) s ss are k s (omega (arith, length-map ss trip))))
 
 -- the first of least has the least round trip
 least-is : (all : List Stamp) (s : Stamp) → IsFirstLeast all s → least_of (map trip all) ≡ trip s
@@ -87,7 +87,7 @@ first_least-found all s is =
     let p : Stamp → Bool = λ t. trip t == least_of (map trip all) in
     let first : position_or_len p all ≡ is.place =
     position_or_len_is p all is.place s (omega arith) (λ k before. let after = is.first k s before in grind (arith, nat_tests))
-        (λ _. grind (arith, nat_tests)) in
+    (λ _. grind (arith, nat_tests)) in
     find_at p all ∙ ap (slice_get all) first ∙ is.there
 
 -- its round trip is the least of all

@@ -29,7 +29,7 @@ range-kept all from i e kept order =
     let d : ℕ = length all - 1024 in
     let place : d + (from - (i + 1 - length (drop d all))) ≡ from = omega (arith, length-drop d all) in
     drop-drop (from - (i + 1 - length (drop d all))) d all ∙ ap (λ n. drop n all) place
-        ∙ sym (take_all (i + 1 - from) (drop from all) (omega (arith, length-drop from all)))
+    ∙ sym (take_all (i + 1 - from) (drop from all) (omega (arith, length-drop from all)))
 
 pub last-push : (xs : List Stamp) (s : Stamp) → last_of (keep_last 1024 (xs ++ s ∷ [])) ≡ Some s
 last-push xs s =
@@ -105,11 +105,11 @@ base-push k freq all s was =
     let last : k'.count ≡ n + 1 = omega (arith, was.count) in
     let least_of_range : List Stamp → ℕ = λ xs. least_of (map trip xs) in
     let in_all : (which : Which) → stamps_in k' which ≡ slice_range more (span_in k' which).from (span_in k' which).to = λ which. stamps_in-all
-        k' more which (stamps-push k freq all s was) counted in
+    k' more which (stamps-push k freq all s was) counted in
     let since : max k.start (k'.count - 1024) ≡ max k.start (n - 1023) = omega arith in
     let late : k'.count - 32 ≡ n - 31 = omega arith in
     let least : least_in k' which.Base ≡ least_trip more (max k.start (n - 1023)) n = ap least_of_range
-        (in_all which.Base ∙ ap₂ (slice_range more) since last) in
+    (in_all which.Base ∙ ap₂ (slice_range more) since last) in
     let recent : least_in k' which.Recent ≡ least_trip more (n - 31) n = ap least_of_range (in_all which.Recent ∙ ap₂ (slice_range more) late last) in
     let started : k.start ≡ start_before freq more n = was.start ∙ sym (start_before-append freq all (s ∷ []) n (omega arith)) in
     let here : k'.count - 1 ≡ n = omega arith in

@@ -23,8 +23,12 @@ pub padded-stands : (xs : List Stamp) (count start : ℕ) → length xs ≡ min 
 unfolding padded
 padded-stands xs count start few =
     let zeros : List ℕ = replicate (count - length xs) 0 in
-    let long : length (zeros ++ map trip xs) ≡ count = omega (arith, length-append zeros (map trip xs),
-        length-replicate {A = ℕ} (count - length xs) 0, length-map xs trip) in
+    let long : length (zeros ++ map trip xs) ≡ count = omega (
+      arith,
+      length-append zeros (map trip xs),
+      length-replicate {A = ℕ} (count - length xs) 0,
+      length-map xs trip,
+    ) in
     let gone : length (zeros ++ map trip xs) - 1024 ≡ length zeros = omega (arith, length-replicate {A = ℕ} (count - length xs) 0) in
     record {
       trips = sym (ap (λ n. drop n (zeros ++ map trip xs)) gone ∙ grind (arith, common_steps));
@@ -36,7 +40,7 @@ unfolding padded
 padded-at xs count k s here =
     let zeros : List ℕ = replicate (count - length xs) 0 in
     ap (λ n. slice_index (zeros ++ map trip xs) (n + k)) (sym (length-replicate {A = ℕ} (count - length xs) 0)) ∙ grind (arith, common_steps)
-        ∙ get_or-map trip xs k s 0 here
+    ∙ get_or-map trip xs k s 0 here
 
 -- the first index of least round trip is where the first stamp of least round trip stands
 pub first_least-listed : (xs : List Stamp) (count from to i : ℕ) (s : Stamp) → length xs ≡ min 1024 count → count - length xs ≤ from → to ≤ count
@@ -51,13 +55,13 @@ first_least-listed xs count from to i s few early late is here =
     let at : (k : ℕ) (d : Stamp) → k < to - from → trip (get_or ys k d) ≡ slice_index (padded xs count) (from + k) = λ k d k_in.
     let place : gone + (a + k) ≡ from + k = omega arith in
     ap trip (get_or-take n (drop a xs) k d (omega arith) ∙ get_or-drop a xs k d) ∙ sym (padded-at xs count (a + k) d (omega arith))
-        ∙ ap (slice_index (padded xs count)) place in
+    ∙ ap (slice_index (padded xs count)) place in
     let place : a + (i - from) ≡ i - gone = omega (arith, is.low) in
     let found : get_or ys (i - from) s ≡ s = get_or-take n (drop a xs) (i - from) s (omega (arith, is.low, is.high)) ∙ get_or-drop a xs (i - from) s
-        ∙ ap (λ j. get_or xs j s) place ∙ get_or_from_slice_get xs (i - gone) s s here in
+    ∙ ap (λ j. get_or xs j s) place ∙ get_or_from_slice_get xs (i - gone) s s here in
     let back : from + (i - from) ≡ i = omega (arith, is.low) in
     let same : trip s ≡ slice_index (padded xs count) i = ap trip (sym found) ∙ at (i - from) s (omega (arith, is.low, is.high))
-        ∙ ap (slice_index (padded xs count)) back in
+    ∙ ap (slice_index (padded xs count)) back in
     let first : pairs.IsFirstLeast ys s = record {
       place = i - from;
       there = slice_get-get_or ys (i - from) s (omega (arith, is.low, is.high)) ∙ ap (λ t. Some t) found;
@@ -92,14 +96,14 @@ pub record IsListed (k : Kept) (which : Which) (i : ℕ) : Type 0 where
 -- so it is with what the lists say
 pub least-listed : (k : Kept) (ls : lists.Kept) (which : Which) (i : ℕ) → length k.stamps ≡ min 1024 k.count → ls ≡ listed (map trip k.stamps) k.count k.start
     → ((all : List ℕ) → lists.StandsFor ls all → lists.IsFirstMinimum (slice_index all) (lists.window ls which).from (lists.window ls which).to
-        i) → IsListed k which i
+    i) → IsListed k which i
 least-listed k ls which i few is_listed least =
     let all : List ℕ = padded k.stamps k.count in
     let w : lists.Span = span_of k.count k.start which in
     let window : lists.window ls which ≡ w = ap (λ ls. lists.window ls which) is_listed ∙ window-listed (map trip k.stamps) k.count k.start which in
     let stands = subst (λ ls. lists.StandsFor ls all) (sym is_listed) (padded-stands k.stamps k.count k.start few) in
     let first : lists.IsFirstMinimum (slice_index all) w.from w.to i = subst
-        (λ (w : lists.Span). lists.IsFirstMinimum (slice_index all) w.from w.to i) window (least all stands) in
+    (λ (w : lists.Span). lists.IsFirstMinimum (slice_index all) w.from w.to i) window (least all stands) in
     let near = span-kept k.count k.start which in
     let early : k.count - length k.stamps ≤ w.from = omega (arith, near.0) in
     record {

@@ -61,11 +61,11 @@ pair_of-spans most k old new first last two most_of few some is_old is_new is_fi
     let n : ℕ = length (drop d xs) in
     let range : Span → List Stamp = λ w. slice_range xs (w.from - gone) (w.to - gone) in
     let left : stamps_in k old ≡ take (quarter n) (drop d xs) = ap range is_old
-        ∙ ap₂ (λ q i. take q (drop i xs)) (omega (arith, length-drop d xs)) (omega (arith, length-drop d xs)) in
+    ∙ ap₂ (λ q i. take q (drop i xs)) (omega (arith, length-drop d xs)) (omega (arith, length-drop d xs)) in
     let from : k.count - quarter (min most k.count) - gone ≡ d + (n - quarter n) = omega (arith, length-drop d xs) in
     let to : k.count - gone ≡ length xs = omega arith in
     let right : stamps_in k new ≡ keep_last (quarter n) (drop d xs) = ap range is_new ∙ ap₂ (slice_range xs) from to
-        ∙ take_rest xs (d + (n - quarter n)) ∙ sym (drop-drop (n - quarter n) d xs) in
+    ∙ take_rest xs (d + (n - quarter n)) ∙ sym (drop-drop (n - quarter n) d xs) in
     among-some (drop d xs) first last (omega (arith, length-drop d xs)) (ap first_least (sym left) ∙ is_first) (ap first_least (sym right) ∙ is_last)
 
 zip-some : (x y : Option Stamp) (j k : Stamp) → option_zip x y ≡ Some (j, k) → (x ≡ Some j) × (y ≡ Some k)
@@ -141,7 +141,7 @@ pub pair_of-both : (P : Stamp → Type 0) (reach : ℕ) (all : List Stamp) (j k 
 pair_of-both P reach all j k are e =
     let at = pair_of-places reach all j k e in
     let holds : (place : ℕ) (s : Stamp) → slice_get all place ≡ Some s
-        → P s = λ place s there. subst P (get_or_from_slice_get all place s s there) (are place s (slice_get_within all place s there)) in
+    → P s = λ place s there. subst P (get_or_from_slice_get all place s s there) (are place s (slice_get_within all place s there)) in
     (holds at.first j at.at_first, holds at.second k at.at_second)
 
 -- a pair of accepted stamps is two accepted stamps

@@ -28,7 +28,7 @@ unfolding start_before
 start_before-le freq all zero = omega arith
 start_before-le freq all (suc i) =
     let started = judged-start freq (start_before freq all i) i (least_trip all (max (start_before freq all i) (i - 1023)) i)
-        (least_trip all (i - 31) i) (start_before-le freq all i) in
+    (least_trip all (i - 31) i) (start_before-le freq all i) in
     omega arith
 
 base_from-append : (freq : ℕ) (xs ys : List Stamp) (start i : ℕ) → start ≤ i → i < length xs → base_from freq (xs ++ ys) start i ≡ base_from freq xs start i

@@ -20,6 +20,7 @@ pub const RECENT: u64 = 32;
 
 /// Judges the stamp with the index `i`, where the level began at `start`, by the least round trip
 /// since then and the least of the last 32 stamps, in counts.
+#[inline(always)]
 #[tactic(auto, unfolding(crate::specs::Bases::judged))]
 pub fn judged(freq: u64, start: u64, i: u64, least: u64, recent: u64) -> Base
     requires freq { freq ≤ 16000000000 }

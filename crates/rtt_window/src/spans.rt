@@ -16,6 +16,7 @@ pub const WIDE: u64 = 1024;
 pub const NEAR: u64 = 64;
 
 /// A quarter of so many, rounded down, and at least one.
+#[inline(always)]
 pub fn quarter(n: u64) -> u64
     ensures { result ≡ quarter n }
 {
@@ -23,6 +24,7 @@ pub fn quarter(n: u64) -> u64
 }
 
 // Where the first quarter of the last `most` of so many ends.
+#[inline(always)]
 fn first_end(count: u64, most: u64) -> u64
     requires { count < 2 ^ 62 }
     ensures { result ≡ (first_quarter most count).to }
@@ -31,6 +33,7 @@ fn first_end(count: u64, most: u64) -> u64
 }
 
 /// Where a window begins once so many stamps were added, whose level began at `start`.
+#[inline(always)]
 pub fn left_end(which: Which, count: u64, start: u64) -> u64
     ensures { result ≡ (span_of count start which).from }
 {
@@ -45,6 +48,7 @@ pub fn left_end(which: Which, count: u64, start: u64) -> u64
 }
 
 // Where it ends.
+#[inline(always)]
 fn right_end(which: Which, count: u64) -> u64
     requires { count < 2 ^ 62 }
     ensures { result ≡ (span_of count 0 which).to }
@@ -57,6 +61,7 @@ fn right_end(which: Which, count: u64) -> u64
 }
 
 // Takes out of a window what it does not have once there is one stamp more than `count`.
+#[inline(always)]
 fn leave(lists: &mut Lists, which: Which, count: u64, start: u64)
     requires few { count < 2 ^ 62 }
     requires started { start ≤ count }
@@ -68,6 +73,7 @@ fn leave(lists: &mut Lists, which: Which, count: u64, start: u64)
 }
 
 // Lets the next round trip into a window, where it goes on by one with the newest of `count` stamps.
+#[inline(always)]
 fn enter<L: Ledger>(lists: &mut Lists, which: Which, count: u64, steps: &mut Steps<L>)
     requires some { 0 < count }
     requires few { count < 2 ^ 62 }
@@ -86,6 +92,7 @@ fn enter<L: Ledger>(lists: &mut Lists, which: Which, count: u64, steps: &mut Ste
 /// The level began at `start`.
 ///
 /// Each window takes two steps at most, and the credit.
+#[inline(always)]
 pub fn slide<L: Ledger>(lists: &mut Lists, count: u64, start: u64, rtt: u64, steps: &mut Steps<L>)
     requires few { count + 1 < 2 ^ 62 }
     requires started { start ≤ count }

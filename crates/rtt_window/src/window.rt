@@ -40,6 +40,7 @@ impl Model for Window {
 }
 
 // The kept stamp at a place.
+#[inline(always)]
 fn stamp_at(stamps: &HeapCircularBuffer<Stamp>, i: usize) -> Stamp
     requires { i < length stamps.now.items }
     ensures { slice_get stamps.now.items i ≡ Some result }
@@ -51,6 +52,7 @@ fn stamp_at(stamps: &HeapCircularBuffer<Stamp>, i: usize) -> Stamp
 }
 
 // The round trip of a stamp.
+#[inline(always)]
 fn trip(s: &Stamp) -> u64
     requires { s.now.ta < s.now.tf }
     ensures { result ≡ trip s.now }
@@ -113,6 +115,7 @@ impl Window {
     }
 
     // Keeps one more stamp, in the place of the oldest where there is no room.
+    #[inline(always)]
     fn keep<L: Ledger>(&mut self, s: Stamp, steps: &mut Steps<L>)
         requires timed { IsInRange s }
         requires accepted { accept_of (last_of self.old.stamps) s self.old.freq ≡ Ok tt }
@@ -126,6 +129,7 @@ impl Window {
     }
 
     // Lets the level begin at a later stamp.
+    #[inline(always)]
     fn begin(&mut self, start: u64)
         requires later { self.old.start ≤ start }
         requires here { start ≤ self.old.count }
@@ -138,6 +142,7 @@ impl Window {
     }
 
     // The first stamp of least round trip in one of the six windows.
+    #[inline(always)]
     fn least_in(&self, which: Which) -> Stamp
         requires some { HasStamp self.now which }
         ensures value { first_least (stamps_in self.now which) ≡ Some result }
@@ -151,6 +156,7 @@ impl Window {
     }
 
     // Its round trip.
+    #[inline(always)]
     fn least_trip(&self, which: Which) -> u64
         requires some { HasStamp self.now which }
         ensures { result ≡ least_in self.now which }
@@ -160,6 +166,7 @@ impl Window {
 
     // The pair of stamps among the last `reach` of the kept ones. For the far and the near window the
     // lists know it.
+    #[inline(always)]
     fn pair_within(&self, reach: u32) -> (Stamp, Stamp)
         requires two { 2 ≤ reach }
         requires some { 2 ≤ length self.now.stamps }
@@ -174,6 +181,7 @@ impl Window {
     }
 
     // Keeps one more stamp, and judges it by what is kept.
+    #[inline(always)]
     fn judge<L: Ledger>(&mut self, s: Stamp, steps: &mut Steps<L>) -> Base
         requires timed { IsInRange s }
         requires accepted { accept_of (last_of self.old.stamps) s self.old.freq ≡ Ok tt }
@@ -200,6 +208,7 @@ impl Window {
     ///
     /// A step is one comparison of two round trips. The steps and the credit together rise by twelve
     /// at most, so in the long run a stamp takes twelve steps.
+    #[inline(always)]
     pub fn add<L: Ledger>(&mut self, s: Stamp, steps: &mut Steps<L>) -> Base
         requires timed { IsInRange s }
         requires accepted { accept_of (last_of self.old.stamps) s self.old.freq ≡ Ok tt }
@@ -217,6 +226,7 @@ impl Window {
     }
 
     /// How many stamps were added, kept or not.
+    #[inline(always)]
     pub fn count(&self) -> u64
         ensures { result ≡ self.now.count }
     {
@@ -224,6 +234,7 @@ impl Window {
     }
 
     /// How many stamps are kept.
+    #[inline(always)]
     pub fn len(&self) -> usize
         ensures value { result ≡ length self.now.stamps }
         ensures most { result ≡ min 1024 self.now.count }
@@ -239,6 +250,7 @@ impl Window {
     }
 
     /// The kept stamp at the place `i`, the oldest at 0.
+    #[inline(always)]
     pub fn stamp(&self, i: usize) -> Stamp
         requires { i < length self.now.stamps }
         ensures value { slice_get self.now.stamps i ≡ Some result }
@@ -249,6 +261,7 @@ impl Window {
     }
 
     /// The kept stamps from the place `from` on, in two runs of which the first has the older ones.
+    #[inline(always)]
     pub fn from_place(&self, from: usize) -> (&[Stamp], &[Stamp])
         ensures value { result.0.now ++ result.1.now ≡ drop from self.now.stamps }
         ensures timed { All IsInRange result.0.now × All IsInRange result.1.now }
@@ -269,6 +282,7 @@ impl Window {
     /// and Korada.
     ///
     /// Among the last 1,024 and the last 64 it is known without a look at each stamp.
+    #[inline(always)]
     pub fn pair(&self, reach: u32) -> Option<(Stamp, Stamp)>
         requires two { 2 ≤ reach }
         requires kept { reach ≤ 1024 }

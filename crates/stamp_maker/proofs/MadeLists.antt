@@ -45,7 +45,7 @@ next-accepted number count (suc n) =
     let one : suc n ≡ n + 1 = omega arith in
     let last : last_of (first_stamps number count (suc n)) ≡ Some (stamp_of_made (made number count n)) =
     ap (λ k. last_of (first_stamps number count k)) one ∙ ap last_of (stamps-more number count n)
-        ∙ last-push (first_stamps number count n) (stamp_of_made (made number count n)) in
+    ∙ last-push (first_stamps number count n) (stamp_of_made (made number count n)) in
     ap (λ o. accept_of o (stamp_of_made (made number count (suc n))) frequency) last
     ∙ ap (λ k. accept_of (Some (stamp_of_made (made number count n))) (stamp_of_made (made number count k)) frequency) one
     ∙ made-later number count n
@@ -57,7 +57,7 @@ first-accepted number count (suc n) few most =
     let before = first-accepted number count n (omega arith) most in
     let s : Stamp = stamp_of_made (made number count n) in
     let pushed = accepted-push frequency (first_stamps number count n) s before
-        (timed-made (made number count n) (made-within number count n (omega arith) most)) (next-accepted number count n) in
+    (timed-made (made number count n) (made-within number count n (omega arith) most)) (next-accepted number count n) in
     subst (λ k. AreAccepted frequency (first_stamps number count k)) one (subst (AreAccepted frequency) (sym (stamps-more number count n)) pushed)
 
 -- each was accepted behind the one before it

@@ -21,9 +21,9 @@ parted-onto : (b : ℕ) (text : List ℕ) (x : ℕ) → Parted text x → (ended
     × (onto_first b (parts_of (text ++ x ∷ [])) ≡ ended ++ (last ++ x ∷ []) ∷ [])
 parted-onto b text x p =
     let split : (es : List (List ℕ)) → parts_of text ≡ es ++ p.last ∷ [] → parts_of (text ++ 10 ∷ []) ≡ (es ++ p.last ∷ []) ++ [] ∷ []
-        → parts_of (text ++ x ∷ []) ≡ es ++ (p.last ++ x ∷ []) ∷ [] → (ended : List (List ℕ)) × (last : List ℕ)
-        × (onto_first b (parts_of text) ≡ ended ++ last ∷ []) × (onto_first b (parts_of (text ++ 10 ∷ [])) ≡ (ended ++ last ∷ []) ++ [] ∷ [])
-        × (onto_first b (parts_of (text ++ x ∷ [])) ≡ ended ++ (last ++ x ∷ []) ∷ []) =
+    → parts_of (text ++ x ∷ []) ≡ es ++ (p.last ++ x ∷ []) ∷ [] → (ended : List (List ℕ)) × (last : List ℕ)
+    × (onto_first b (parts_of text) ≡ ended ++ last ∷ []) × (onto_first b (parts_of (text ++ 10 ∷ [])) ≡ (ended ++ last ∷ []) ++ [] ∷ [])
+    × (onto_first b (parts_of (text ++ x ∷ [])) ≡ ended ++ (last ++ x ∷ []) ∷ []) =
     elim [
       | [] ↦ λ e f g. ([], b ∷ p.last, ap (onto_first b) e, ap (onto_first b) f, ap (onto_first b) g)
       | l ∷ ls ↦ λ e f g. ((b ∷ l) ∷ ls, p.last, ap (onto_first b) e, ap (onto_first b) f, ap (onto_first b) g)
@@ -78,7 +78,7 @@ pub parts_are : (text : List ℕ) → parts_of text ≡ ended_lines text ++ open
 parts_are text =
     let p = parted text 0 refl in
     p.parts ∙ ap (λ (ls : List (List ℕ)). ls ++ p.last ∷ []) (sym (ended_by text p.ended p.last p.parts))
-        ∙ ap (λ (l : List ℕ). ended_lines text ++ l ∷ []) (sym (open_by text p.ended p.last p.parts))
+    ∙ ap (λ (l : List ℕ). ended_lines text ++ l ∷ []) (sym (open_by text p.ended p.last p.parts))
 
 -- a line feed ends the open line
 pub ended_lines-feed : (text : List ℕ) → ended_lines (text ++ 10 ∷ []) ≡ ended_lines text ++ open_line text ∷ []
@@ -100,5 +100,9 @@ open_line-more text x other = let p = parted text x other in open_by (text ++ x 
 
 -- there are no more lines than bytes
 pub ended_lines-short : (text : List ℕ) → length (ended_lines text) ≤ length text
-ended_lines-short text = omega (arith, length-take (length (parts_of text) - 1) (parts_of text), length-slice_split (λ b. eqb b 10) text,
-    count_by-le-length (λ b. eqb b 10) text)
+ended_lines-short text = omega (
+  arith,
+  length-take (length (parts_of text) - 1) (parts_of text),
+  length-slice_split (λ b. eqb b 10) text,
+  count_by-le-length (λ b. eqb b 10) text,
+)

@@ -83,7 +83,7 @@ pub nanos_filled : (ds : List ℕ) (v w : ℕ) → 1 ≤ length ds → length ds
     → w ≡ value_from v (replicate (9 - length ds) 48) → Some w ≡ nanos_in ds
 nanos_filled ds v w some few digits value filled =
     let same : w ≡ nanos_of ds = filled ∙ ap (λ n. value_from n (replicate (9 - length ds) 48)) value
-        ∙ sym (value_from-append 0 ds (replicate (9 - length ds) 48)) in
+    ∙ sym (value_from-append 0 ds (replicate (9 - length ds) 48)) in
     let fraction : is_fraction ds ≡ true = grind (arith, nat_tests) in
     ap (λ n. Some n) same ∙ ap (λ t. cond t (Some (nanos_of ds)) None) (sym fraction)
 

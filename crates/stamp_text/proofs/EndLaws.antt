@@ -19,7 +19,7 @@ end-faulty-by : (lines : List (List ℕ)) (r : List ℕ) (m : ℕ) (later : Opti
 end-faulty-by lines [] m later f e h = first_fault-later (faults lines) None later f (λ no. absurd (cc)) h
 end-faulty-by lines (b ∷ bs) m later f e h =
     let found : faults (lines ++ (b ∷ bs) ∷ []) ≡ Some f = faults-push lines (b ∷ bs) m (omega arith)
-        ∙ first_fault-later (faults lines) (early_fault m (b ∷ bs)) _ f (early-feed (second_of lines) m (b ∷ bs) f) h in
+    ∙ first_fault-later (faults lines) (early_fault m (b ∷ bs)) _ f (early-feed (second_of lines) m (b ∷ bs) f) h in
     ap (λ x. first_fault x later) found
 
 -- a file in which a fault was found has that fault
@@ -45,8 +45,8 @@ end-open : (first : Option LineFault) (gives before : List Line) (m : ℕ) (r : 
 end-open first gives before m (Err w) f g = ap (λ x. first_fault x (cond (eqb m 1) (Some (record { line = 2; why = why.Freq })) None)) f
 end-open first gives before m (Ok o) f g =
     elim (eqb m 1) as (λ t. MatchResult (cond t (Err (record { line = 2; why = why.Freq })) (Ok o))
-        (λ o. (first_fault first (cond t (Some (record { line = 2; why = why.Freq })) None) ≡ None) × (gives ≡ before ++ option_to_list o))
-        (λ f. first_fault first (cond t (Some (record { line = 2; why = why.Freq })) None) ≡ Some f)) [
+    (λ o. (first_fault first (cond t (Some (record { line = 2; why = why.Freq })) None) ≡ None) × (gives ≡ before ++ option_to_list o))
+    (λ f. first_fault first (cond t (Some (record { line = 2; why = why.Freq })) None) ≡ Some f)) [
       | true ↦ ap (λ x. first_fault x (Some (record { line = 2; why = why.Freq }))) f
       | false ↦ (ap (λ x. first_fault x None) f, g ∙ ap (λ (xs : List Line). before ++ xs) (given_on-last o))
     ]
@@ -62,16 +62,16 @@ end-sound lines (b ∷ bs) m e h early =
     let line = b ∷ bs in
     let says = early-short (second_of lines) m line early in
     let first : faults (lines ++ line ∷ []) ≡ fault_on m (short_says (second_of lines) m line) None = faults-push lines line m (omega arith)
-        ∙ ap (λ f. first_fault f (fault_on m (line_says (second_of lines) m line) None)) h ∙ ap (λ r. fault_on m r None) says in
+    ∙ ap (λ f. first_fault f (fault_on m (line_says (second_of lines) m line) None)) h ∙ ap (λ r. fault_on m r None) says in
     let gives : gives_all (lines ++ line ∷ []) ≡ gives_all lines
-        ++ given_on (short_says (second_of lines) m line) [] = gives_all-push lines line m (omega arith) h ∙ ap (λ r. gives_all lines ++ given_on r []) says in
+    ++ given_on (short_says (second_of lines) m line) [] = gives_all-push lines line m (omega arith) h ∙ ap (λ r. gives_all lines ++ given_on r []) says in
     let count : length (lines ++ line ∷ []) ≡ m = omega (arith, length-append lines (line ∷ [])) in
     let late : missing (length (lines ++ line ∷ [])) ≡ cond (eqb m 1) (Some (record { line = 2; why = why.Freq })) None = ap missing count
-        ∙ missing_is m (omega arith) in
+    ∙ missing_is m (omega arith) in
     subst (λ v. MatchResult (second_line m (at_line m (short_says (second_of lines) m line)))
-        (λ o. (first_fault (faults (lines ++ line ∷ [])) v ≡ None) × (gives_all (lines ++ line ∷ []) ≡ gives_all lines ++ option_to_list o))
-        (λ f. first_fault (faults (lines ++ line ∷ [])) v ≡ Some f)) (sym late)
-        (end-open (faults (lines ++ line ∷ [])) (gives_all (lines ++ line ∷ [])) (gives_all lines) m (short_says (second_of lines) m line) first gives)
+    (λ o. (first_fault (faults (lines ++ line ∷ [])) v ≡ None) × (gives_all (lines ++ line ∷ []) ≡ gives_all lines ++ option_to_list o))
+    (λ f. first_fault (faults (lines ++ line ∷ [])) v ≡ Some f)) (sym late)
+    (end-open (faults (lines ++ line ∷ [])) (gives_all (lines ++ line ∷ [])) (gives_all lines) m (short_says (second_of lines) m line) first gives)
 
 -- the answer to the end, by the fault that is kept
 end-by : (fault : Option LineFault) (text line : List ℕ) (second : Bool) (ended : ℕ) → length text < 2 ^ 62
@@ -82,11 +82,11 @@ end-by None text line second ended short at =
     let m = length (ended_lines text) + 1 in
     let known = no_fault text m refl at.sound in
     let here : AnswersEnd text (sound_end (second_of (ended_lines text)) (length (ended_lines text)) m (open_line text)) = end-sound
-        (ended_lines text) (open_line text) m refl known.lines known.last in
+    (ended_lines text) (open_line text) m refl known.lines known.last in
     subst (λ n. AnswersEnd text (sound_end second ended n line)) (sym (counted text ended short at.lines))
-        (subst (λ l. AnswersEnd text (sound_end second ended m l)) (sym at.last)
-        (subst (λ k. AnswersEnd text (sound_end second k m (open_line text))) (sym at.lines)
-        (subst (λ v. AnswersEnd text (sound_end v (length (ended_lines text)) m (open_line text))) (sym at.version) here)))
+    (subst (λ l. AnswersEnd text (sound_end second ended m l)) (sym at.last)
+    (subst (λ k. AnswersEnd text (sound_end second k m (open_line text))) (sym at.lines)
+    (subst (λ v. AnswersEnd text (sound_end v (length (ended_lines text)) m (open_line text))) (sym at.version) here)))
 end-by (Some f) text line second ended short was = end-faulty text f was
 
 -- the answer to the end is the grammar's
@@ -104,7 +104,10 @@ pub refused_all : (k : Kept) (x : ℕ) → IfErr (step_answer k x)
     (λ f. (text : List ℕ) → length text < 2 ^ 62 → StandsFor k text → IsFaultOfAll (text ++ x ∷ []) f)
 refused_all k x =
     let split : (r : Result (Option Line) LineFault) → ((text : List ℕ) → length text < 2 ^ 62 → StandsFor k text → AnswersByte text x r) → IfErr r
-        (λ f. (text : List ℕ) → length text < 2 ^ 62 → StandsFor k text → IsFaultOfAll (text ++ x ∷ []) f) =
-    elim [ Ok o ↦ λ h. tt | Err f ↦ λ h text short at more. end-faulty ((text ++ x ∷ []) ++ more) f
-        (fault-stays-all (text ++ x ∷ []) more f (h text short at)) ] in
+    (λ f. (text : List ℕ) → length text < 2 ^ 62 → StandsFor k text → IsFaultOfAll (text ++ x ∷ []) f) =
+    elim [
+      | Ok o ↦ λ h. tt
+      | Err f ↦ λ h text short at more. end-faulty ((text ++ x ∷ []) ++ more) f
+          (fault-stays-all (text ++ x ∷ []) more f (h text short at))
+    ] in
     split (step_answer k x) (λ text short at. step_answers k text x short at)

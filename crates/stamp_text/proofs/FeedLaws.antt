@@ -24,10 +24,10 @@ pub fault-feed : (text : List ℕ) (m : ℕ) → m ≡ 1 + length (ended_lines t
 unfolding fault_so_far
 fault-feed text m e =
     let ends : first_fault (faults (ended_lines (text ++ 10 ∷ [])))
-        (early_fault (length (ended_lines (text ++ 10 ∷ [])) + 1) (open_line (text ++ 10 ∷ []))) ≡ first_fault
-        (faults (ended_lines text ++ open_line text ∷ [])) None =
-        ap (λ (r : List ℕ). first_fault (faults (ended_lines (text ++ 10 ∷ []))) (early_fault (length (ended_lines (text ++ 10 ∷ [])) + 1) r))
-        (open_line-feed text) ∙ ap (λ (ls : List (List ℕ)). first_fault (faults ls) None) (ended_lines-feed text) in
+    (early_fault (length (ended_lines (text ++ 10 ∷ [])) + 1) (open_line (text ++ 10 ∷ []))) ≡ first_fault
+    (faults (ended_lines text ++ open_line text ∷ [])) None =
+    ap (λ (r : List ℕ). first_fault (faults (ended_lines (text ++ 10 ∷ []))) (early_fault (length (ended_lines (text ++ 10 ∷ [])) + 1) r))
+    (open_line-feed text) ∙ ap (λ (ls : List (List ℕ)). first_fault (faults ls) None) (ended_lines-feed text) in
     ends ∙ first_fault-none _ ∙ faults-push (ended_lines text) (open_line text) m e
 
 -- the first fault behind another byte
@@ -47,7 +47,7 @@ early-push m line x = ap (λ n. cond (ltb 255 n) (Some (record { line = m; why =
 pub early-feed : (second : Bool) (m : ℕ) (line : List ℕ) (f : LineFault) → early_fault m line ≡ Some f → fault_on m (line_says second m line) None ≡ Some f
 early-feed second m line f h =
     let split : (t : Bool) (r : Result (Option Line) Why) → cond t (Some (record { line = m; why = why.LongLine })) None ≡ Some f
-        → fault_on m (cond t (Err why.LongLine) r) None ≡ Some f =
+    → fault_on m (cond t (Err why.LongLine) r) None ≡ Some f =
     elim [ true ↦ λ r e. e | false ↦ λ r e. absurd (cc) ] in
     split (ltb 255 (length line)) (short_says second m line) h
 
@@ -66,7 +66,7 @@ unfolding fault_so_far
 fault-stays-feed text f h =
     let m = length (ended_lines text) + 1 in
     fault-feed text m (omega arith) ∙ first_fault-later (faults (ended_lines text)) (early_fault m (open_line text)) _ f
-        (early-feed (second_of (ended_lines text)) m (open_line text) f) h
+    (early-feed (second_of (ended_lines text)) m (open_line text) f) h
 
 -- a fault stays behind another byte
 fault-stays-more : (text : List ℕ) (x : ℕ) (f : LineFault) → eqb x 10 ≡ false → fault_so_far text ≡ Some f → fault_so_far (text ++ x ∷ []) ≡ Some f
@@ -101,7 +101,7 @@ no_fault text m e h =
 pub early-short : (second : Bool) (m : ℕ) (line : List ℕ) → early_fault m line ≡ None → line_says second m line ≡ short_says second m line
 early-short second m line h =
     let split : (t : Bool) (r : Result (Option Line) Why) → cond {A = Option LineFault} t (Some (record { line = m; why = why.LongLine })) None
-        ≡ None → cond {A = Result (Option Line) Why} t (Err why.LongLine) r ≡ r =
+    ≡ None → cond {A = Result (Option Line) Why} t (Err why.LongLine) r ≡ r =
     elim [ true ↦ λ r e. absurd (cc) | false ↦ λ r e. refl ] in
     split (ltb 255 (length line)) (short_says second m line) h
 
@@ -113,13 +113,13 @@ answer-feed text m e h =
     let known = no_fault text m e h in
     let says = early-short (second_of (ended_lines text)) m (open_line text) known.last in
     let first : fault_so_far (text ++ 10 ∷ []) ≡ fault_on m (short_says (second_of (ended_lines text)) m (open_line text)) None = fault-feed text m
-        (omega arith) ∙ ap (λ f. first_fault f (fault_on m (line_says (second_of (ended_lines text)) m (open_line text)) None)) known.lines
-        ∙ ap (λ r. fault_on m r None) says in
+    (omega arith) ∙ ap (λ f. first_fault f (fault_on m (line_says (second_of (ended_lines text)) m (open_line text)) None)) known.lines
+    ∙ ap (λ r. fault_on m r None) says in
     let gives : gives_all (ended_lines (text ++ 10 ∷ [])) ≡ gives_all (ended_lines text)
-        ++ given_on (short_says (second_of (ended_lines text)) m (open_line text)) [] = ap gives_all (ended_lines-feed text)
-        ∙ gives_all-push (ended_lines text) (open_line text) m (omega arith) known.lines ∙ ap (λ r. gives_all (ended_lines text) ++ given_on r []) says in
+    ++ given_on (short_says (second_of (ended_lines text)) m (open_line text)) [] = ap gives_all (ended_lines-feed text)
+    ∙ gives_all-push (ended_lines text) (open_line text) m (omega arith) known.lines ∙ ap (λ r. gives_all (ended_lines text) ++ given_on r []) says in
     let split : (r : Result (Option Line) Why) → fault_so_far (text ++ 10 ∷ []) ≡ fault_on m r None
-        → gives_all (ended_lines (text ++ 10 ∷ [])) ≡ gives_all (ended_lines text) ++ given_on r [] → AnswersByte text 10 (at_line m r) =
+    → gives_all (ended_lines (text ++ 10 ∷ [])) ≡ gives_all (ended_lines text) ++ given_on r [] → AnswersByte text 10 (at_line m r) =
     elim [ Ok o ↦ λ f g. (f, g ∙ ap (λ (xs : List Line). gives_all (ended_lines text) ++ xs) (given_on-last o)) | Err w ↦ λ f g. f ] in
     split (short_says (second_of (ended_lines text)) m (open_line text)) first gives
 
@@ -134,22 +134,22 @@ unfolding given
 answer-more text m x other e h =
     let known = no_fault text m e h in
     let first : fault_so_far (text ++ x ∷ []) ≡ early_fault m (open_line text ++ x ∷ []) = fault-more text x other
-        ∙ ap (λ f. first_fault f (early_fault (length (ended_lines text) + 1) (open_line text ++ x ∷ []))) known.lines
-        ∙ ap (λ k. early_fault k (open_line text ++ x ∷ [])) (sym e) in
+    ∙ ap (λ f. first_fault f (early_fault (length (ended_lines text) + 1) (open_line text ++ x ∷ []))) known.lines
+    ∙ ap (λ k. early_fault k (open_line text ++ x ∷ [])) (sym e) in
     let push = early-push m (open_line text) x in
     let few = early-length m (open_line text) known.last in
     let full : ltb 255 (length (open_line text) + 1) ≡ eqb (length (open_line text)) 255 = grind (arith, nat_tests) in
     let same : gives_all (ended_lines (text ++ x ∷ [])) ≡ gives_all (ended_lines text) ++ [] = ap gives_all (ended_lines-more text x other)
-        ∙ sym (append-nil (gives_all (ended_lines text))) in
+    ∙ sym (append-nil (gives_all (ended_lines text))) in
     let split : (b : Bool) → fault_so_far (text ++ x ∷ []) ≡ cond b (Some (record { line = m; why = why.LongLine })) None
-        → AnswersByte text x (cond b (Err (record { line = m; why = why.LongLine })) (Ok None)) =
+    → AnswersByte text x (cond b (Err (record { line = m; why = why.LongLine })) (Ok None)) =
     elim [ true ↦ λ f. f | false ↦ λ f. (f, same) ] in
     let not_feed : sound_answer (second_of (ended_lines text)) m (open_line text) x ≡ cond (eqb (length (open_line text)) 255)
-        (Err (record { line = m; why = why.LongLine })) (Ok None) =
-        ap (λ t. cond t (at_line m (short_says (second_of (ended_lines text)) m (open_line text)))
-        (cond (eqb (length (open_line text)) 255) (Err (record { line = m; why = why.LongLine })) (Ok None))) other in
+    (Err (record { line = m; why = why.LongLine })) (Ok None) =
+    ap (λ t. cond t (at_line m (short_says (second_of (ended_lines text)) m (open_line text)))
+    (cond (eqb (length (open_line text)) 255) (Err (record { line = m; why = why.LongLine })) (Ok None))) other in
     subst (AnswersByte text x) (sym not_feed) (split (eqb (length (open_line text)) 255)
-        (first ∙ push ∙ ap (λ t. cond t (Some (record { line = m; why = why.LongLine })) None) full))
+    (first ∙ push ∙ ap (λ t. cond t (Some (record { line = m; why = why.LongLine })) None) full))
 
 -- the number that the reader counts is the line's
 pub counted : (text : List ℕ) (ended : ℕ) → length text < 2 ^ 62 → ended ≡ length (ended_lines text) → line_number ended ≡ length (ended_lines text) + 1
@@ -162,11 +162,11 @@ answer-sound text line second ended x short at =
     let m = length (ended_lines text) + 1 in
     let e = counted text ended short at.lines in
     let here : AnswersByte text x (sound_answer (second_of (ended_lines text)) m (open_line text) x) = by_feed
-        (λ x. AnswersByte text x (sound_answer (second_of (ended_lines text)) m (open_line text) x)) x (answer-feed text m refl at.sound)
-        (λ other. answer-more text m x other refl at.sound) in
+    (λ x. AnswersByte text x (sound_answer (second_of (ended_lines text)) m (open_line text) x)) x (answer-feed text m refl at.sound)
+    (λ other. answer-more text m x other refl at.sound) in
     subst (λ n. AnswersByte text x (sound_answer second n line x)) (sym e)
-        (subst (λ l. AnswersByte text x (sound_answer second m l x)) (sym at.last)
-        (subst (λ v. AnswersByte text x (sound_answer v m (open_line text) x)) (sym at.version) here))
+    (subst (λ l. AnswersByte text x (sound_answer second m l x)) (sym at.last)
+    (subst (λ v. AnswersByte text x (sound_answer v m (open_line text) x)) (sym at.version) here))
 
 -- the answer to a byte, by the fault that is kept
 answer-by : (fault : Option LineFault) (text line : List ℕ) (second : Bool) (ended x : ℕ) → length text < 2 ^ 62
@@ -199,14 +199,28 @@ kept-by (Err f) fault text line second ended x short was e a = a
 kept-by (Ok o) (Some f) text line second ended x short was e a = absurd (cc)
 kept-by (Ok o) None text line second ended x short at e a =
     by_feed (λ x. fault_so_far (text ++ x ∷ []) ≡ None → StandsFor
-        (step_kept (record { ended = ended; second = second; line = line; fault = None }) x (Ok o)) (text ++ x ∷ [])) x
-    (λ sound. record { sound = sound; lines = counted text ended short at.lines
-        ∙ sym (ap length (ended_lines-feed text) ∙ length-append (ended_lines text) (open_line text ∷ [])); version =
-        second-feed text line second ended at; last = sym (open_line-feed text) })
-    (λ other sound. subst (λ t. StandsFor (cond t (record { ended = line_number ended; second = second_after ended second line; line = [];
-        fault = None }) (record { ended = ended; second = second; line = line ++ x ∷ []; fault = None })) (text ++ x ∷ [])) (sym other)
-        (record { sound = sound; lines = at.lines ∙ ap length (sym (ended_lines-more text x other)); version = at.version
-        ∙ ap second_of (sym (ended_lines-more text x other)); last = ap (λ (l : List ℕ). l ++ x ∷ []) at.last ∙ sym (open_line-more text x other) })) a.0
+    (step_kept (record { ended = ended; second = second; line = line; fault = None }) x (Ok o)) (text ++ x ∷ [])) x
+    (λ sound. record {
+      sound = sound;
+      lines = counted text ended short at.lines
+          ∙ sym (ap length (ended_lines-feed text) ∙ length-append (ended_lines text) (open_line text ∷ []));
+      version =
+          second-feed text line second ended at;
+      last = sym (open_line-feed text);
+    })
+    (λ other sound. subst (λ t. StandsFor (cond t (record {
+      ended = line_number ended;
+      second = second_after ended second line;
+      line = [];
+      fault = None;
+    }) (record { ended = ended; second = second; line = line ++ x ∷ []; fault = None })) (text ++ x ∷ [])) (sym other)
+    (record {
+      sound = sound;
+      lines = at.lines ∙ ap length (sym (ended_lines-more text x other));
+      version = at.version
+          ∙ ap second_of (sym (ended_lines-more text x other));
+      last = ap (λ (l : List ℕ). l ++ x ∷ []) at.last ∙ sym (open_line-more text x other);
+    })) a.0
 
 -- the reader stands for the text with the byte that it took
 pub step_stands : (k : Kept) (text : List ℕ) (x : ℕ) → length text < 2 ^ 62 → StandsFor k text → StandsFor (step_kept k x (step_answer k x)) (text ++ x ∷ [])

@@ -20,7 +20,7 @@ given_from-more second n [] more = (given_from second n more, refl)
 given_from-more second n (l ∷ ls) more =
     let rest = given_from-more second (n + 1) ls more in
     elim (line_says second n l) as (λ r. (xs : List Line) × (given_on r (given_from second (n + 1) (ls ++ more)) ≡ given_on r
-        (given_from second (n + 1) ls) ++ xs)) [
+    (given_from second (n + 1) ls) ++ xs)) [
       | Ok o ↦ elim o as (λ o. (xs : List Line) × (given_on (Ok o) (given_from second (n + 1) (ls ++ more)) ≡ given_on (Ok o)
           (given_from second (n + 1) ls) ++ xs)) [ None ↦ rest | Some x ↦ (rest.0, ap (λ (ys : List Line). x ∷ ys) rest.1) ]
       | Err w ↦ ([], refl)
@@ -32,11 +32,17 @@ given_from-faulty : (second : Bool) (n : ℕ) (lines : List (List ℕ)) (line : 
 given_from-faulty second n [] line f h = absurd (cc)
 given_from-faulty second n (l ∷ ls) line f h =
     let step : (r : Result (Option Line) Why) → fault_on n r (fault_from second (n + 1) ls) ≡ Some f
-        → given_on r (given_from second (n + 1) (ls ++ line ∷ [])) ≡ given_on r (given_from second (n + 1) ls) =
-    elim [ Ok o ↦ elim o as (λ o. fault_on n (Ok o) (fault_from second (n + 1) ls) ≡ Some f
-        → given_on (Ok o) (given_from second (n + 1) (ls ++ line ∷ [])) ≡ given_on (Ok o)
-        (given_from second (n + 1) ls)) [ None ↦ λ g. given_from-faulty second (n + 1) ls line f g | Some x ↦ λ g. ap (λ (xs : List Line). x ∷ xs)
-        (given_from-faulty second (n + 1) ls line f g) ] | Err w ↦ λ g. refl ] in
+    → given_on r (given_from second (n + 1) (ls ++ line ∷ [])) ≡ given_on r (given_from second (n + 1) ls) =
+    elim [
+      | Ok o ↦ elim o as (λ o. fault_on n (Ok o) (fault_from second (n + 1) ls) ≡ Some f
+          → given_on (Ok o) (given_from second (n + 1) (ls ++ line ∷ [])) ≡ given_on (Ok o)
+          (given_from second (n + 1) ls)) [
+            | None ↦ λ g. given_from-faulty second (n + 1) ls line f g
+            | Some x ↦ λ g. ap (λ (xs : List Line). x ∷ xs)
+                (given_from-faulty second (n + 1) ls line f g)
+          ]
+      | Err w ↦ λ g. refl
+    ] in
     step (line_says second n l) h
 
 -- so it is of the lines of a file, whose version the first of them says
@@ -58,7 +64,7 @@ given_from-last : (lines : List (List ℕ)) (line : List ℕ) (m : ℕ) (f : Lin
     → first_fault (faults lines) (fault_on m (line_says (second_of lines) m line) None) ≡ Some f → gives_all (lines ++ line ∷ []) ≡ gives_all lines
 given_from-last lines line m f e h =
     let split : (v : Option LineFault) → faults lines ≡ v → first_fault v (fault_on m (line_says (second_of lines) m line) None) ≡ Some f
-        → gives_all (lines ++ line ∷ []) ≡ gives_all lines =
+    → gives_all (lines ++ line ∷ []) ≡ gives_all lines =
     elim [
       | None ↦ λ none g. gives_all-push lines line m e none ∙ ap (λ (xs : List Line). gives_all lines ++ xs)
           (given_on-faulty m (line_says (second_of lines) m line) f g) ∙ append-nil (gives_all lines)
@@ -99,9 +105,11 @@ pub given-more : (text more : List ℕ) → (xs : List Line) × (given (text ++ 
 given-more text [] = ([], ap given (append-nil text) ∙ sym (append-nil (given text)))
 given-more text (x ∷ more) =
     let first = given-byte text x in
-    let rest = given-more (text ++ x ∷ []) more in
-    (first.0 ++ rest.0, ap given (sym (append_assoc text (x ∷ []) more)) ∙ rest.1 ∙ ap (λ (xs : List Line). xs ++ rest.0) first.1
-        ∙ append_assoc (given text) first.0 rest.0)
+    let rest = given-more (text ++ x ∷ []) more in (
+      first.0 ++ rest.0,
+      ap given (sym (append_assoc text (x ∷ []) more)) ∙ rest.1 ∙ ap (λ (xs : List Line). xs ++ rest.0) first.1
+          ∙ append_assoc (given text) first.0 rest.0,
+    )
 
 -- the end adds to what is given
 given_by-end : (lines : List (List ℕ)) (r : List ℕ) → (xs : List Line) × (gives_all (with_last lines r) ≡ gives_all lines ++ xs)
@@ -139,7 +147,7 @@ given-end-faulty-by lines (b ∷ bs) f h =
     let line = b ∷ bs in
     let m = 1 + length lines in
     let split : (v : Option LineFault) → faults (lines ++ line ∷ []) ≡ v → first_fault v (missing (length (lines ++ line ∷ []))) ≡ Some f
-        → gives_all (lines ++ line ∷ []) ≡ gives_all lines =
+    → gives_all (lines ++ line ∷ []) ≡ gives_all lines =
     elim [
       | None ↦ λ none g. early-end lines line f none g
       | Some v ↦ λ found g. given_from-last lines line m v refl (sym (faults-push lines line m refl) ∙ found)
@@ -169,9 +177,11 @@ two-lines v a b more later h =
     let first = said 1 (line_says v 1 a) (fault_on 2 (line_says v 2 b) later) h in
     let second = said 2 (line_says v 2 b) later first.2 in
     let none = first-gives-nothing v a first.0 first.1 in
-    let some = second-gives-head v b second.0 second.1 in
-    (some.0, ap (λ r. given_on r (given_on (line_says v 2 b) more)) (first.1 ∙ ap (λ o. Ok o) none)
-        ∙ ap (λ r. given_on r more) (second.1 ∙ ap (λ o. Ok o) some.1))
+    let some = second-gives-head v b second.0 second.1 in (
+      some.0,
+      ap (λ r. given_on r (given_on (line_says v 2 b) more)) (first.1 ∙ ap (λ o. Ok o) none)
+          ∙ ap (λ r. given_on r more) (second.1 ∙ ap (λ o. Ok o) some.1),
+    )
 
 head-first-by : (lines : List (List ℕ)) → faults lines ≡ None → missing (length lines) ≡ None → (h : Head) × (more : List Line)
     × (gives_all lines ≡ gives.Head h ∷ more)

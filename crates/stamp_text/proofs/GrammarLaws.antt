@@ -20,9 +20,9 @@ pub fault_from-push : (second : Bool) (n : ℕ) (lines : List (List ℕ)) (line 
 fault_from-push second n [] line m e = let same : n ≡ m = omega arith in ap (λ k. fault_on k (line_says second k line) None) same
 fault_from-push second n (l ∷ ls) line m e =
     let later : fault_from second (n + 1) (ls ++ line ∷ []) ≡ first_fault (fault_from second (n + 1) ls)
-        (fault_on m (line_says second m line) None) = fault_from-push second (n + 1) ls line m (omega arith) in
+    (fault_on m (line_says second m line) None) = fault_from-push second (n + 1) ls line m (omega arith) in
     elim (line_says second n l) as (λ r. fault_on n r (fault_from second (n + 1) (ls ++ line ∷ [])) ≡ first_fault
-        (fault_on n r (fault_from second (n + 1) ls)) (fault_on m (line_says second m line) None))
+    (fault_on n r (fault_from second (n + 1) ls)) (fault_on m (line_says second m line) None))
     [ Ok o ↦ later | Err w ↦ refl ]
 
 -- what the lines give with one more line, where those before it have no fault
@@ -31,11 +31,17 @@ pub given_from-push : (second : Bool) (n : ℕ) (lines : List (List ℕ)) (line 
 given_from-push second n [] line m e h = let same : n ≡ m = omega arith in ap (λ k. given_on (line_says second k line) []) same
 given_from-push second n (l ∷ ls) line m e h =
     let step : (r : Result (Option Line) Why) → fault_on n r (fault_from second (n + 1) ls) ≡ None
-        → given_on r (given_from second (n + 1) (ls ++ line ∷ [])) ≡ given_on r (given_from second (n + 1) ls) ++ given_on (line_says second m line) [] =
-    elim [ Ok o ↦ elim o as (λ o. fault_on n (Ok o) (fault_from second (n + 1) ls) ≡ None
-        → given_on (Ok o) (given_from second (n + 1) (ls ++ line ∷ [])) ≡ given_on (Ok o) (given_from second (n + 1) ls)
-        ++ given_on (line_says second m line) []) [ None ↦ λ g. given_from-push second (n + 1) ls line m (omega arith) g | Some x ↦ λ g. ap
-        (λ (xs : List Line). x ∷ xs) (given_from-push second (n + 1) ls line m (omega arith) g) ] | Err w ↦ λ g. absurd (cc) ] in
+    → given_on r (given_from second (n + 1) (ls ++ line ∷ [])) ≡ given_on r (given_from second (n + 1) ls) ++ given_on (line_says second m line) [] =
+    elim [
+      | Ok o ↦ elim o as (λ o. fault_on n (Ok o) (fault_from second (n + 1) ls) ≡ None
+          → given_on (Ok o) (given_from second (n + 1) (ls ++ line ∷ [])) ≡ given_on (Ok o) (given_from second (n + 1) ls)
+          ++ given_on (line_says second m line) []) [
+            | None ↦ λ g. given_from-push second (n + 1) ls line m (omega arith) g
+            | Some x ↦ λ g. ap
+                (λ (xs : List Line). x ∷ xs) (given_from-push second (n + 1) ls line m (omega arith) g)
+          ]
+      | Err w ↦ λ g. absurd (cc)
+    ] in
     step (line_says second n l) h
 
 -- the same of the lines of a file, where the first of them says its version

@@ -125,7 +125,7 @@ unfolding test_of
 above-set freq seen count at c e h =
     let not_reached : is_reached seen count ≡ false = (none-holds ((is_reached seen count, refused.SetOld) ∷ []) e).0 in
     let split : (stamp : Option ℕ) (set : Option ℕ) → (is_not_behind count stamp || is_not_behind count set) ≡ false
-        → (is_not_behind c stamp || is_not_behind c set) ≡ true → c < count =
+    → (is_not_behind c stamp || is_not_behind c set) ≡ true → c < count =
     elim [
       | None ↦ λ set out within. behind-set set count c out within
       | Some n ↦ elim [ None ↦ λ out within. grind (arith, nat_tests) | Some m ↦ λ out within. grind (arith, nat_tests) ]
@@ -146,7 +146,7 @@ one-counted : (freq : ℕ) (items : List Item) (x : Item) (n : ℕ) → AreAccep
     → ((c : ℕ) → is_reached (seen_of items) c ≡ true → c < n) → ((c : ℕ) → c ≤ n → is_reached (seen_with (seen_of items) x) c ≡ true) → Counted items x
 one-counted freq items x n are is above reach =
     let counts : counts_of (items ++ x ∷ []) ≡ counts_of items ++ n ∷ [] = counts-push items x
-        ∙ ap (λ (o : Option ℕ). counts_of items ++ option_to_list o) is in
+    ∙ ap (λ (o : Option ℕ). counts_of items ++ option_to_list o) is in
     let seen = seen-push items x in
     record {
       rising = subst (AllPairs (λ a b. a < b)) (sym counts) (all_pairs_push (λ a b. a < b) (counts_of items) n are.rising
@@ -201,8 +201,13 @@ item-push freq items (item.Leap count leap) are timed e =
 
 -- no items
 pub items-none : (freq : ℕ) → AreAcceptedItems freq []
-items-none freq = record { timed = All-nil IsItemInRange; stamps = accepted-none freq; rising = λ i j d before here. absurd (omega arith);
-    reached = λ k d here. absurd (omega arith); few = omega arith }
+items-none freq = record {
+  timed = All-nil IsItemInRange;
+  stamps = accepted-none freq;
+  rising = λ i j d before here. absurd (omega arith);
+  reached = λ k d here. absurd (omega arith);
+  few = omega arith;
+}
 
 -- the accepted items behind accepted ones
 pub items-all : (freq : ℕ) (before items : List Item) → AreAcceptedItems freq before → All IsItemInRange items

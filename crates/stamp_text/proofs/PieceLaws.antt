@@ -45,7 +45,7 @@ point_at [] es h = refl
 point_at (x ∷ xs) es h =
     let both = and_parts (is_digit x) (all_digits xs) h in
     ap (λ t. cond (not t) (1 + position_or_len is_point (xs ++ 46 ∷ es)) 0) (no_point x both.0)
-        ∙ (let one : 1 + position_or_len is_point (xs ++ 46 ∷ es) ≡ length (x ∷ xs) = omega (arith, point_at xs es both.1) in one)
+    ∙ (let one : 1 + position_or_len is_point (xs ++ 46 ∷ es) ≡ length (x ∷ xs) = omega (arith, point_at xs es both.1) in one)
 
 -- digits, a point and digits are a time
 time_is : (ds es : List ℕ) → all_digits ds ≡ true → time_in (ds ++ 46 ∷ es) ≡ written_of (number_in ds) (nanos_in es)
@@ -72,8 +72,12 @@ number_first text n v ahead within space =
     let long : length (take n text) ≡ n = omega (arith, length-take n text) in
     record {
       piece = take n text;
-      first = record { split = cut_there text n 32 within space; plain = plain_digits (take n text) ahead.digits; some = omega (arith, ahead.some);
-          short = omega (arith, ahead.few) };
+      first = record {
+        split = cut_there text n 32 within space;
+        plain = plain_digits (take n text) ahead.digits;
+        some = omega (arith, ahead.some);
+        short = omega (arith, ahead.few);
+      };
       number = ahead.number;
     }
 
@@ -85,7 +89,7 @@ time_first text rest n m sec nanos is ahead within point few within' digits' tol
     let ds = take n text in
     let es = take m rest in
     let whole : text ≡ (ds ++ 46 ∷ es) ++ 32 ∷ drop (m + 1) rest = cut_there text n 46 within point
-        ∙ ap (λ (r : List ℕ). ds ++ 46 ∷ r) (sym is ∙ cut_there rest m 32 within' space) ∙ sym (append_assoc ds (46 ∷ es) (32 ∷ drop (m + 1) rest)) in
+    ∙ ap (λ (r : List ℕ). ds ++ 46 ∷ r) (sym is ∙ cut_there rest m 32 within' space) ∙ sym (append_assoc ds (46 ∷ es) (32 ∷ drop (m + 1) rest)) in
     let long : length (ds ++ 46 ∷ es) ≡ n + (1 + m) = omega (arith, length-append ds (46 ∷ es), length-take n text, length-take m rest) in
     record {
       piece = ds ++ 46 ∷ es;
@@ -146,8 +150,8 @@ line_says_item second n line late inner entry =
     let no_first : eqb n 1 ≡ false = grind (arith, nat_tests) in
     let no_second : eqb n 2 ≡ false = grind (arith, nat_tests) in
     ap (text_says second n) (no_return line inner) ∙ ap (λ t. cond t (version_says line)
-        (cond (eqb n 2) (freq_says second line) (entry_says second n line))) no_first
-        ∙ ap (λ t. cond t (freq_says second line) (entry_says second n line)) no_second ∙ ap (λ t. cond t (Ok None) (item_at n (item_in second line))) entry
+    (cond (eqb n 2) (freq_says second line) (entry_says second n line))) no_first
+    ∙ ap (λ t. cond t (freq_says second line) (entry_says second n line)) no_second ∙ ap (λ t. cond t (Ok None) (item_at n (item_in second line))) entry
 
 -- the first byte of a number is a digit
 first_digit : (x : ℕ) (xs : List ℕ) (n : ℕ) → number_in (x ∷ xs) ≡ Some n → is_digit x ≡ true
@@ -173,10 +177,10 @@ stamp_of_four : (line a b c d : List ℕ) (ta tf : ℕ) (tb te : Written) → pi
 unfolding stamp_in
 stamp_of_four line a b c d ta tf tb te pieces la lb lc ld na nb nc nd =
     let none : (is_empty a || is_empty b || is_empty c || is_empty d || false || false) ≡ false = cc
-        (not_empty a la, not_empty b lb, not_empty c lc, not_empty d ld) in
+    (not_empty a la, not_empty b lb, not_empty c lc, not_empty d ld) in
     let told : stamp_of_numbers (number_in a) (time_in b) (time_in c) (number_in d) (Some 1) (Some 0) ≡ stamp_within ta tb te tf 1 0 = cc (na, nb, nc, nd) in
     sym (ap (λ (ps : List (List ℕ)). stamp_of_pieces (with_rest ps)) pieces
-        ∙ ap (λ x. cond x (Err why.Columns) (stamp_of_numbers (number_in a) (time_in b) (time_in c) (number_in d) (Some 1) (Some 0))) none ∙ told)
+    ∙ ap (λ x. cond x (Err why.Columns) (stamp_of_numbers (number_in a) (time_in b) (time_in c) (number_in d) (Some 1) (Some 0))) none ∙ told)
 
 -- a text that begins with a number, two times and a number begins with a stamp line
 pub stamp_first : (text r s t : List ℕ) (ta tf m n : ℕ) (tb te : Written) (q : Result Stamp Why) → IsNumberPiece text ta r → IsTimePiece r tb s
@@ -188,9 +192,18 @@ stamp_first text r s t ta tf m n tb te q a b c last is count =
     let second : List ℕ = b.piece ++ 32 ∷ third in
     let line : List ℕ = a.piece ++ 32 ∷ second in
     let whole : text ≡ line ++ drop m t = first_of_front text a.piece r second (drop m t) a.first
-        (first_of_front r b.piece s third (drop m t) b.first (first_of_front s c.piece t d (drop m t) c.first (sym (take-append-drop m t)))) in
-    let size : length line ≡ n = omega (arith, count, long, first_long text a.piece r a.first, first_long r b.piece s b.first,
-        first_long s c.piece t c.first, length-append a.piece (32 ∷ second), length-append b.piece (32 ∷ third), length-append c.piece (32 ∷ d)) in
+    (first_of_front r b.piece s third (drop m t) b.first (first_of_front s c.piece t d (drop m t) c.first (sym (take-append-drop m t)))) in
+    let size : length line ≡ n = omega (
+      arith,
+      count,
+      long,
+      first_long text a.piece r a.first,
+      first_long r b.piece s b.first,
+      first_long s c.piece t c.first,
+      length-append a.piece (32 ∷ second),
+      length-append b.piece (32 ∷ third),
+      length-append c.piece (32 ∷ d),
+    ) in
     let front : take n text ≡ line = ap (λ k. take k text) (sym size) ∙ ap (take (length line)) whole ∙ take-append_seam line (drop m t) in
     let pieces : pieces_of line ≡ a.piece ∷ b.piece ∷ c.piece ∷ d ∷ [] =
     first_pieces line a.piece second (first_of text a.piece r second a.first)
@@ -198,14 +211,24 @@ stamp_first text r s t ta tf m n tb te q a b c last is count =
     ∙ ap (λ (ps : List (List ℕ)). b.piece ∷ ps) (first_pieces third c.piece d (first_of s c.piece t d c.first)
     ∙ ap (λ (ps : List (List ℕ)). c.piece ∷ ps) (slice_split_none (λ b. eqb b 32) d (unspaced d (plain_digits d last.digits))))) in
     let stamp : q ≡ stamp_in line = is ∙ stamp_of_four line a.piece b.piece c.piece d ta tf tb te pieces a.first.some b.first.some c.first.some
-        (omega (arith, long, last.some)) a.number b.time c.time last.number in
+    (omega (arith, long, last.some)) a.number b.time c.time last.number in
     let plain = plain_digits d last.digits in
     let inner : All (λ b. 32 ≤ b) line = first_inner text a.piece r second a.first
-        (first_inner r b.piece s third b.first (first_inner s c.piece t d c.first (λ k e l. let high : 46 ≤ get_or d k e = plain k e l in omega arith))) in
+    (first_inner r b.piece s third b.first (first_inner s c.piece t d c.first (λ k e l. let high : 46 ≤ get_or d k e = plain k e l in omega arith))) in
     record {
       within = omega (arith, size, ap length whole, length-append line (drop m t));
-      room = omega (arith, size, long, last.few, a.first.short, b.first.short, c.first.short, length-append a.piece (32 ∷ second),
-          length-append b.piece (32 ∷ third), length-append c.piece (32 ∷ d));
+      room = omega (
+        arith,
+        size,
+        long,
+        last.few,
+        a.first.short,
+        b.first.short,
+        c.first.short,
+        length-append a.piece (32 ∷ second),
+        length-append b.piece (32 ∷ third),
+        length-append c.piece (32 ∷ d),
+      );
       inner = subst (All (λ b. 32 ≤ b)) (sym front) inner;
       stamp = stamp ∙ ap stamp_in (sym front);
       says = λ k late. ap (short_says false k) front ∙ line_says_stamp k line late inner
@@ -225,7 +248,7 @@ pub number_says : (first : List ℕ) (rest : List (List ℕ)) (n : ℕ) → numb
     → item_of_pieces (first ∷ rest) ≡ stamp_item (stamp_of_pieces (first ∷ rest))
 number_says first rest n e =
     ap (λ t. cond t (set_says (two_of rest)) (cond (bytes_eq first (codes "leap")) (leap_says (two_of rest))
-        (stamp_item (stamp_of_pieces (first ∷ rest))))) (no_word first (codes "et") 115 n (omega arith) e)
+    (stamp_item (stamp_of_pieces (first ∷ rest))))) (no_word first (codes "et") 115 n (omega arith) e)
     ∙ ap (λ t. cond t (leap_says (two_of rest)) (stamp_item (stamp_of_pieces (first ∷ rest)))) (no_word first (codes "eap") 108 n (omega arith) e)
 
 -- what a line of six pieces says in version 2
@@ -236,11 +259,11 @@ second_of_six : (line a b c d e f : List ℕ) (ta tf stratum leap : ℕ) (tb te 
 unfolding item_in
 second_of_six line a b c d e f ta tf stratum leap tb te pieces la lb lc ld le lf na nb nc nd ne nf =
     let none : (is_empty a || is_empty b || is_empty c || is_empty d || is_empty e || is_empty f) ≡ false = cc
-        (not_empty a la, not_empty b lb, not_empty c lc, not_empty d ld, not_empty e le, not_empty f lf) in
+    (not_empty a la, not_empty b lb, not_empty c lc, not_empty d ld, not_empty e le, not_empty f lf) in
     let told : stamp_of_numbers (number_in a) (time_in b) (time_in c) (number_in d) (number_in e) (number_in f) ≡ stamp_within ta tb te tf stratum
-        leap = cc (na, nb, nc, nd, ne, nf) in
+    leap = cc (na, nb, nc, nd, ne, nf) in
     let six : stamp_of_pieces (a ∷ b ∷ c ∷ d ∷ e ∷ f ∷ []) ≡ stamp_within ta tb te tf stratum leap = ap
-        (λ x. cond x (Err why.Columns) (stamp_of_numbers (number_in a) (time_in b) (time_in c) (number_in d) (number_in e) (number_in f))) none ∙ told in
+    (λ x. cond x (Err why.Columns) (stamp_of_numbers (number_in a) (time_in b) (time_in c) (number_in d) (number_in e) (number_in f))) none ∙ told in
     sym (ap item_of_pieces pieces ∙ number_says a (b ∷ c ∷ d ∷ e ∷ f ∷ []) ta na ∙ ap stamp_item six)
 
 -- a text that begins with a number, two times and three numbers begins with a stamp line of version 2
@@ -256,11 +279,23 @@ second_first text r s t u v ta tf stratum leap m n tb te q a b c d e last is cou
     let second : List ℕ = b.piece ++ 32 ∷ third in
     let line : List ℕ = a.piece ++ 32 ∷ second in
     let whole : text ≡ line ++ drop m v = first_of_front text a.piece r second (drop m v) a.first
-        (first_of_front r b.piece s third (drop m v) b.first (first_of_front s c.piece t fourth (drop m v) c.first
-        (first_of_front t d.piece u fifth (drop m v) d.first (first_of_front u e.piece v f (drop m v) e.first (sym (take-append-drop m v)))))) in
-    let size : length line ≡ n = omega (arith, count, long, first_long text a.piece r a.first, first_long r b.piece s b.first,
-        first_long s c.piece t c.first, first_long t d.piece u d.first, first_long u e.piece v e.first, length-append a.piece (32 ∷ second),
-        length-append b.piece (32 ∷ third), length-append c.piece (32 ∷ fourth), length-append d.piece (32 ∷ fifth), length-append e.piece (32 ∷ f)) in
+    (first_of_front r b.piece s third (drop m v) b.first (first_of_front s c.piece t fourth (drop m v) c.first
+    (first_of_front t d.piece u fifth (drop m v) d.first (first_of_front u e.piece v f (drop m v) e.first (sym (take-append-drop m v)))))) in
+    let size : length line ≡ n = omega (
+      arith,
+      count,
+      long,
+      first_long text a.piece r a.first,
+      first_long r b.piece s b.first,
+      first_long s c.piece t c.first,
+      first_long t d.piece u d.first,
+      first_long u e.piece v e.first,
+      length-append a.piece (32 ∷ second),
+      length-append b.piece (32 ∷ third),
+      length-append c.piece (32 ∷ fourth),
+      length-append d.piece (32 ∷ fifth),
+      length-append e.piece (32 ∷ f),
+    ) in
     let front : take n text ≡ line = ap (λ k. take k text) (sym size) ∙ ap (take (length line)) whole ∙ take-append_seam line (drop m v) in
     let pieces : pieces_of line ≡ a.piece ∷ b.piece ∷ c.piece ∷ d.piece ∷ e.piece ∷ f ∷ [] =
     first_pieces line a.piece second (first_of text a.piece r second a.first)
@@ -270,17 +305,30 @@ second_first text r s t u v ta tf stratum leap m n tb te q a b c d e last is cou
     ∙ ap (λ (ps : List (List ℕ)). d.piece ∷ ps) (first_pieces fifth e.piece f (first_of u e.piece v f e.first)
     ∙ ap (λ (ps : List (List ℕ)). e.piece ∷ ps) (slice_split_none (λ b. eqb b 32) f (unspaced f (plain_digits f last.digits))))))) in
     let stamp : stamp_item q ≡ item_in true line = ap stamp_item is
-        ∙ second_of_six line a.piece b.piece c.piece d.piece e.piece f ta tf stratum leap tb te pieces a.first.some b.first.some c.first.some
-        d.first.some e.first.some (omega (arith, long, last.some)) a.number b.time c.time d.number e.number last.number in
+    ∙ second_of_six line a.piece b.piece c.piece d.piece e.piece f ta tf stratum leap tb te pieces a.first.some b.first.some c.first.some
+    d.first.some e.first.some (omega (arith, long, last.some)) a.number b.time c.time d.number e.number last.number in
     let plain = plain_digits f last.digits in
     let inner : All (λ b. 32 ≤ b) line = first_inner text a.piece r second a.first
-        (first_inner r b.piece s third b.first (first_inner s c.piece t fourth c.first
-        (first_inner t d.piece u fifth d.first (first_inner u e.piece v f e.first (λ k g l. let high : 46 ≤ get_or f k g = plain k g l in omega arith))))) in
+    (first_inner r b.piece s third b.first (first_inner s c.piece t fourth c.first
+    (first_inner t d.piece u fifth d.first (first_inner u e.piece v f e.first (λ k g l. let high : 46 ≤ get_or f k g = plain k g l in omega arith))))) in
     record {
       within = omega (arith, size, ap length whole, length-append line (drop m v));
-      room = omega (arith, size, long, last.few, a.first.short, b.first.short, c.first.short, d.first.short, e.first.short,
-          length-append a.piece (32 ∷ second), length-append b.piece (32 ∷ third), length-append c.piece (32 ∷ fourth),
-          length-append d.piece (32 ∷ fifth), length-append e.piece (32 ∷ f));
+      room = omega (
+        arith,
+        size,
+        long,
+        last.few,
+        a.first.short,
+        b.first.short,
+        c.first.short,
+        d.first.short,
+        e.first.short,
+        length-append a.piece (32 ∷ second),
+        length-append b.piece (32 ∷ third),
+        length-append c.piece (32 ∷ fourth),
+        length-append d.piece (32 ∷ fifth),
+        length-append e.piece (32 ∷ f),
+      );
       inner = subst (All (λ b. 32 ≤ b)) (sym front) inner;
       says = λ k late. ap (short_says true k) front ∙ line_says_item true k line late inner
           (not_skipped a.piece (32 ∷ second) a.first.some a.first.plain) ∙ ap (item_at k) (sym stamp);

@@ -51,8 +51,8 @@ pub time_cut : (text whole fraction : List ℕ) → position_or_len is_point tex
 time_cut text whole fraction h before after =
     let some : list_any is_point text ≡ true = any_placed is_point text ∙ grind (arith, nat_tests) in
     ap (λ t. cond t (written_of (number_in (before_first is_point text)) (nanos_in (after_first is_point text)))
-        (written_of (number_in text) (Some 0))) some ∙ ap (λ t. written_of (number_in t) (nanos_in (after_first is_point text))) (sym before)
-        ∙ ap (λ t. written_of (number_in whole) (nanos_in t)) (sym after)
+    (written_of (number_in text) (Some 0))) some ∙ ap (λ t. written_of (number_in t) (nanos_in (after_first is_point text))) (sym before)
+    ∙ ap (λ t. written_of (number_in whole) (nanos_in t)) (sym after)
 
 -- seconds that are capped are so in the time
 written_capped : (sec nanos : Option ℕ) → written_of (option_map (λ n. min n (2 ^ 64 - 1)) sec) nanos ≡ option_map capped (written_of sec nanos)
@@ -70,13 +70,13 @@ time_told text whole sec nanos told time e f = ap (λ s. written_of s told) e
 pub first_place : (p : ℕ → Bool) (xs : List ℕ) (r : Option ℕ) → IsFirstByte p xs r → r ≡ position p xs
 first_place p xs None h =
     let none : position_or_len p xs ≡ length xs = position_or_len_is p xs (length xs) 0 (omega arith)
-        (λ k below. false_from_ne_true (p (get_or xs k 0)) (h k (omega arith) below)) (λ no. absurd (omega arith)) in
+    (λ k below. false_from_ne_true (p (get_or xs k 0)) (h k (omega arith) below)) (λ no. absurd (omega arith)) in
     let past : ltb (position_or_len p xs) (length xs) ≡ false = grind (arith, nat_tests) in
     sym (ap (λ t. cond t (Some (position_or_len p xs)) None) past)
 first_place p xs (Some k) h =
     let first = h.0 in
     let here : position_or_len p xs ≡ k = position_or_len_is p xs k 0 (omega (arith, first.high))
-        (λ j below. false_from_ne_true (p (get_or xs j 0)) (first.before j (omega arith) below)) (λ within. h.1) in
+    (λ j below. false_from_ne_true (p (get_or xs j 0)) (first.before j (omega arith) below)) (λ within. h.1) in
     let high = first.high in
     let within : ltb (position_or_len p xs) (length xs) ≡ true = grind (arith, nat_tests) in
     sym (ap (λ t. cond t (Some (position_or_len p xs)) None) within ∙ ap (λ n. Some n) here)

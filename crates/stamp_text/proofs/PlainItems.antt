@@ -56,7 +56,7 @@ reach freq ss are k d within =
     let n : ℕ = length ss - 1 in
     let last : Stamp = get_or ss n blank in
     let is : (seen_of (map item.Stamp ss)).stamp ≡ Some last = seen-stamp (map item.Stamp ss) ∙ ap last_of (stamps-back ss)
-        ∙ slice_get-get_or ss n blank (omega arith) in
+    ∙ slice_get-get_or ss n blank (omega arith) in
     let here : get_or (map (λ s. s.tf) ss) k d ≡ (get_or ss k blank).tf = count-at ss k d (omega arith) in
     let below : (get_or ss k blank).tf ≤ last.tf = elim (eq-or-lt_of_le {n = k} {m = n} (omega arith)) as (λ _. (get_or ss k blank).tf ≤ last.tf) [
       | inl same ↦ (let e = ap (λ i. (get_or ss i blank).tf) same in omega arith)
@@ -102,7 +102,7 @@ stamps-alone freq before (s ∷ ss) plain =
     let seen : Seen = seen_of (map item.Stamp before) in
     let here : is_unsynchronised s ≡ false = All-head (λ s. is_unsynchronised s ≡ false) s ss plain in
     let test : accept_item freq (map item.Stamp before) (item.Stamp s) ≡ accept_of (last_of before) s freq = plain-test freq seen s
-        (no-set nothing_seen before refl) here ∙ ap (λ o. accept_of o s freq) (seen-stamp (map item.Stamp before) ∙ ap last_of (stamps-back before)) in
+    (no-set nothing_seen before refl) here ∙ ap (λ o. accept_of o s freq) (seen-stamp (map item.Stamp before) ∙ ap last_of (stamps-back before)) in
     ap (λ r. accepted_items freq (accepted_with (map item.Stamp before) (item.Stamp s) r) (map item.Stamp ss)) test
     ∙ ap (λ (all : List Item). accepted_items freq all (map item.Stamp ss)) (map-with before s (accept_of (last_of before) s freq))
     ∙ stamps-alone freq (accepted_with before s (accept_of (last_of before) s freq)) ss (All-tail (λ s. is_unsynchronised s ≡ false) s ss plain)

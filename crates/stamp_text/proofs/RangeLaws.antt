@@ -49,9 +49,9 @@ head-in-range second (Some n) =
 freq-in-range : (second : Bool) (line : List ℕ) → GivesInRange (freq_says second line)
 freq-in-range second line = elim (bytes_eq (take 5 line) (codes "freq ")) as
     (λ t. GivesInRange (head_of second (cond t (freq_within (number_in (drop 5 line))) None))) [
-  | true ↦ head-in-range second (number_in (drop 5 line))
-  | false ↦ tt
-]
+      | true ↦ head-in-range second (number_in (drop 5 line))
+      | false ↦ tt
+    ]
 
 -- numbers that pass the test are in their ranges
 all_six : (a b c d e f : ℕ) → (ltb a 4611686018427387904 && ltb b 4294967296 && ltb c 4294967296 && ltb d 4611686018427387904 && ltb e 256
@@ -82,18 +82,27 @@ written-below None nanos h = tt
 time-below : (text : List ℕ) → HasNanos (time_in text)
 time-below text = elim (list_any is_point text) as (λ t. HasNanos
     (cond t (written_of (number_in (before_first is_point text)) (nanos_in (after_first is_point text))) (written_of (number_in text) (Some 0)))) [
-  | true ↦ written-below (number_in (before_first is_point text)) (nanos_in (after_first is_point text)) (fraction-below (after_first is_point text))
-  | false ↦ written-below (number_in text) (Some 0) (omega arith)
-]
+      | true ↦ written-below (number_in (before_first is_point text)) (nanos_in (after_first is_point text)) (fraction-below (after_first is_point text))
+      | false ↦ written-below (number_in text) (Some 0) (omega arith)
+    ]
 
 -- numbers that pass the test make a stamp in range
 within-in-range : (a : ℕ) (b c : Written) (d e f : ℕ) → b.nanos < 1000000000 → c.nanos < 1000000000 → IfOk (stamp_within a b c d e f) IsInRange
 within-in-range a b c d e f below_b below_c =
     let split : (t : Bool) → (ltb a 4611686018427387904 && ltb b.sec 4294967296 && ltb c.sec 4294967296 && ltb d 4611686018427387904 && ltb e 256
-        && ltb f 4) ≡ t → IfOk {E = Why} (cond t (Ok (record { ta = a; tb = of_nanos b.sec b.nanos; te = of_nanos c.sec c.nanos; tf = d; stratum = e;
-        leap = f })) (Err why.Range)) IsInRange =
-    elim [ true ↦ λ h. let few = all_six a b.sec c.sec d e f h in
-        record { ta = few.0; tf = few.3; tb = time-in-range b.sec b.nanos few.1 below_b; te = time-in-range c.sec c.nanos few.2 below_c } | false ↦ λ h. tt ] in
+    && ltb f 4) ≡ t → IfOk {E = Why} (cond t (Ok (record {
+      ta = a;
+      tb = of_nanos b.sec b.nanos;
+      te = of_nanos c.sec c.nanos;
+      tf = d;
+      stratum = e;
+      leap = f;
+    })) (Err why.Range)) IsInRange =
+    elim [
+      | true ↦ λ h. let few = all_six a b.sec c.sec d e f h in
+          record { ta = few.0; tf = few.3; tb = time-in-range b.sec b.nanos few.1 below_b; te = time-in-range c.sec c.nanos few.2 below_c }
+      | false ↦ λ h. tt
+    ] in
     split _ refl
 
 -- numbers, if they are all told, make a stamp in range
@@ -105,9 +114,9 @@ numbers-in-range _ _ _ _ _ _ below_b below_c = tt
 pieces-in-range : (pieces : List (List ℕ)) → IfOk (stamp_of_pieces pieces) IsInRange
 pieces-in-range (a ∷ b ∷ c ∷ d ∷ e ∷ f ∷ []) = elim (is_empty a || is_empty b || is_empty c || is_empty d || is_empty e || is_empty f) as
     (λ t. IfOk (cond t (Err why.Columns) (stamp_of_numbers (number_in a) (time_in b) (time_in c) (number_in d) (number_in e) (number_in f))) IsInRange) [
-  | true ↦ tt
-  | false ↦ numbers-in-range (number_in a) (time_in b) (time_in c) (number_in d) (number_in e) (number_in f) (time-below b) (time-below c)
-]
+      | true ↦ tt
+      | false ↦ numbers-in-range (number_in a) (time_in b) (time_in c) (number_in d) (number_in e) (number_in f) (time-below b) (time-below c)
+    ]
 pieces-in-range _ = tt
 
 -- a stamp in range is an item in range
@@ -118,7 +127,7 @@ stamp-item (Err w) h = tt
 set-in-range : (count : Option ℕ) (at : Option Written) → HasNanos at → IfOk (set_of count at) IsItemInRange
 set-in-range (Some count) (Some at) below =
     let split : (t : Bool) → (ltb count 4611686018427387904 && ltb at.sec 4294967296) ≡ t
-        → IfOk {E = Why} (cond t (Ok (item.Set count (of_nanos at.sec at.nanos))) (Err why.Range)) IsItemInRange =
+    → IfOk {E = Why} (cond t (Ok (item.Set count (of_nanos at.sec at.nanos))) (Err why.Range)) IsItemInRange =
     elim [ true ↦ λ h. record { count = grind (arith, nat_tests); at = time-in-range at.sec at.nanos (grind (arith, nat_tests)) below } | false ↦ λ h. tt ] in
     split _ refl
 set-in-range _ _ below = tt
@@ -153,7 +162,7 @@ item-pieces-in-range [] = tt
 item-pieces-in-range (word ∷ rest) =
     one-of IsItemInRange (bytes_eq word (codes "set")) _ _ (set-says-in-range (two_of rest))
     (one-of IsItemInRange (bytes_eq word (codes "leap")) _ _ (leap-says-in-range (two_of rest))
-        (stamp-item (stamp_of_pieces (word ∷ rest)) (pieces-in-range (word ∷ rest))))
+    (stamp-item (stamp_of_pieces (word ∷ rest)) (pieces-in-range (word ∷ rest))))
 
 -- a line gives its item
 pub item-in-range : (second : Bool) (line : List ℕ) → IfOk (item_in second line) IsItemInRange
@@ -179,7 +188,7 @@ entry-in-range second n line = either-in-range (is_skipped line) (Ok None) (item
 says-in-range : (second : Bool) (n : ℕ) (line : List ℕ) → GivesInRange (text_says second n line)
 says-in-range second n line =
     either-in-range (eqb n 1) (version_says line) _ (either-in-range (bytes_eq line (codes "radclock-stamps 1") || is_second line) (Ok None)
-        (Err why.Head) tt tt)
+    (Err why.Head) tt tt)
     (either-in-range (eqb n 2) (freq_says second line) (entry_says second n line) (freq-in-range second line) (entry-in-range second n line))
 
 -- a fault at a line gives nothing
@@ -203,7 +212,7 @@ step-in-range k b =
     let n = line_number k.ended in
     unless-in-range k.fault (sound_answer k.second n k.line b)
     (either-in-range (eqb b 10) (at_line n (short_says k.second n k.line)) _ (short-in-range k.second n k.line)
-        (either-in-range (eqb (length k.line) 255) (Err (record { line = n; why = why.LongLine })) (Ok None) tt tt))
+    (either-in-range (eqb (length k.line) 255) (Err (record { line = n; why = why.LongLine })) (Ok None) tt tt))
 
 -- the want of line 2 gives nothing
 second-in-range : (n : ℕ) (r : Result (Option Line) LineFault) → GivesInRange r → GivesInRange (second_line n r)
@@ -236,8 +245,8 @@ lines-in-range : (second : Bool) (n : ℕ) (lines : List (List ℕ)) → AllByRe
 lines-in-range second n [] = tt
 lines-in-range second n (line ∷ lines) =
     on-in-range (line_says second n line) (given_from second (n + 1) lines)
-        (either-in-range (ltb 255 (length line)) (Err why.LongLine) (short_says second n line) tt (says-in-range second n (without_return line)))
-        (lines-in-range second (n + 1) lines)
+    (either-in-range (ltb 255 (length line)) (Err why.LongLine) (short_says second n line) tt (says-in-range second n (without_return line)))
+    (lines-in-range second (n + 1) lines)
 
 -- what a whole input gives
 pub file-in-range : (text : List ℕ) → AllByRecursion IsLineInRange (given_of_file text)

@@ -39,7 +39,7 @@ six_told a b c (d ∷ ds) [] f r front hd he hf is = absurd (omega arith)
 six_told a b c (d ∷ ds) (e ∷ es) [] r front hd he hf is = absurd (omega arith)
 six_told a b c (d ∷ ds) (e ∷ es) (f ∷ fs) r front hd he hf is =
     is ∙ sym (ap (λ t. cond (t || false || false || false) (Err why.Columns)
-        (stamp_of_numbers (number_in a) (time_in b) (time_in c) (number_in (d ∷ ds)) (number_in (e ∷ es)) (number_in (f ∷ fs)))) front)
+    (stamp_of_numbers (number_in a) (time_in b) (time_in c) (number_in (d ∷ ds)) (number_in (e ∷ es)) (number_in (f ∷ fs)))) front)
 
 -- more than four pieces are too many
 pub too_many : (a b c d e : List ℕ) (more : List (List ℕ)) → stamp_of_pieces (with_rest (a ∷ b ∷ c ∷ d ∷ e ∷ more)) ≡ Err why.Columns

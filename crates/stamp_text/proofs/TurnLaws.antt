@@ -10,7 +10,7 @@ use Rattle.stamp_text.specs.declared.lines.LineFault.{LineFault}
 use Rattle.stamp_text.specs.declared.lines.Stamp.{Stamp}
 use Rattle.stamp_text.specs.declared.lines.Why.TheVariants as why
 use Rattle.stamp_text.specs.Cut.{without_return}
-use Rattle.stamp_text.specs.Grammar.{is_second, short_says, fault_so_far, given}
+use Rattle.stamp_text.specs.Grammar.{freq_says, is_second, short_says, version_says, fault_so_far, given}
 use Rattle.stamp_text.specs.Kept.{Kept, IsAt, StandsFor, AnswersByte, AnswersBytes, IsFaultOfAll}
 use Rattle.stamp_text.specs.FeedSteps.{line_number, at_line, sound_answer, unless_faulty, step_answer, second_after, step_kept}
 use Rattle.stamp_text.specs.Pieces.{BeginsWithLine}
@@ -80,10 +80,10 @@ turn_answers old new bytes r text short at (inr e) =
     let passed = silent-stands old e.mid e.front text (omega arith) at e.silent in
     let few : length (text ++ e.front) < 2 ^ 62 = omega (arith, length-append text e.front) in
     let one : AnswersByte (text ++ e.front) e.last r = subst (AnswersByte (text ++ e.front) e.last) (sym e.answer)
-        (step_answers e.mid (text ++ e.front) e.last few passed.stands) in
+    (step_answers e.mid (text ++ e.front) e.last few passed.stands) in
     let here : StandsFor (step_kept e.mid e.last r) ((text ++ e.front) ++ e.last ∷ []) = subst
-        (λ r. StandsFor (step_kept e.mid e.last r) ((text ++ e.front) ++ e.last ∷ [])) (sym e.answer)
-        (step_stands e.mid (text ++ e.front) e.last few passed.stands) in
+    (λ r. StandsFor (step_kept e.mid e.last r) ((text ++ e.front) ++ e.last ∷ [])) (sym e.answer)
+    (step_stands e.mid (text ++ e.front) e.last few passed.stands) in
     record {
       answer = subst (λ bs. AnswersBytes text bs r) (sym e.split) (last-answers text e.front e.last r passed.same one);
       stands = subst (λ k. StandsFor k (text ++ bytes)) (sym e.after)
@@ -125,8 +125,8 @@ plain_byte k b none other room =
     let m = line_number k.ended in
     let long : Result (Option Line) LineFault = Err (record { line = m; why = why.LongLine }) in
     ap (λ f. unless_faulty f (sound_answer k.second m k.line b)) none
-        ∙ ap (λ t. cond t (at_line m (short_says k.second m k.line)) (cond (eqb (length k.line) 255) long (Ok None))) not_feed
-        ∙ ap (λ t. cond t long (Ok None)) not_full
+    ∙ ap (λ t. cond t (at_line m (short_says k.second m k.line)) (cond (eqb (length k.line) 255) long (Ok None))) not_feed
+    ∙ ap (λ t. cond t long (Ok None)) not_full
 
 -- nothing is answered to bytes that are no line feeds, where the line has room for them
 pub plain_silent : (k : Kept) (bs : List ℕ) → k.fault ≡ None → All (λ b. b ≢ 10) bs → length k.line + length bs ≤ 255
@@ -135,12 +135,12 @@ plain_silent k [] none all room = ap (λ l. record k { line = l }) (append-nil k
 plain_silent k (b ∷ bs) none all room =
     let not_feed : eqb b 10 ≡ false = let other : b ≢ 10 = all 0 0 (omega arith) in grind (arith, nat_tests) in
     let step : step_kept k b (Ok None) ≡ record k { line = k.line ++ b ∷ [] } = ap
-        (λ t. cond t (record { ended = line_number k.ended; second = second_after k.ended k.second k.line; line = []; fault = k.fault })
-        (record k { line = k.line ++ b ∷ [] })) not_feed in
+    (λ t. cond t (record { ended = line_number k.ended; second = second_after k.ended k.second k.line; line = []; fault = k.fault })
+    (record k { line = k.line ++ b ∷ [] })) not_feed in
     let mid : Kept = record k { line = k.line ++ b ∷ [] } in
     let rest = plain_silent mid bs none (λ j d h. all (suc j) d (omega arith)) (omega (arith, length-append k.line (b ∷ []))) in
     let whole : TakesSilently mid bs (record k { line = k.line ++ (b ∷ bs) }) = subst (λ l. TakesSilently mid bs (record k { line = l }))
-        (append_assoc k.line (b ∷ []) bs) rest in
+    (append_assoc k.line (b ∷ []) bs) rest in
     (plain_byte k b none (all 0 0 (omega arith)) (omega arith), subst (λ m. TakesSilently m bs (record k { line = k.line ++ (b ∷ bs) })) (sym step) whole)
 
 -- what is known behind bytes that were added
@@ -181,21 +181,44 @@ second-stays ended second line late =
     let other : eqb ended 0 ≡ false = grind (arith, nat_tests) in
     ap (λ t. cond t (is_second (without_return line)) second) other
 
+-- the answer to a line that gives this and its line feed, where no line was open
+said_turn : (old new : Kept) (more : List ℕ) (n k : ℕ) (o : Option Line) → old.fault ≡ None → old.line ≡ [] → 2 ≤ old.ended → n < length more
+    → get_or more n 0 ≡ 10 → n ≤ 255 → All (λ b. b ≢ 10) (take n more) → k ≡ line_number old.ended → short_says old.second k (take n more) ≡ Ok o
+    → new ≡ record old { ended = k } → AnswersInTurn old (take (n + 1) more) (Ok o) new
+unfolding step_answer
+said_turn old new more n k o none empty late within feed room plain is says after =
+    let bytes : List ℕ = take n more in
+    let answer : Ok o ≡ unless_faulty old.fault (at_line (line_number old.ended) (short_says old.second (line_number old.ended) bytes)) =
+    sym (ap (λ f. unless_faulty f (at_line (line_number old.ended) (short_says old.second (line_number old.ended) bytes))) none
+    ∙ ap (λ j. at_line j (short_says old.second j bytes)) (sym is) ∙ ap (at_line k) says) in
+    let same : second_after old.ended old.second bytes ≡ old.second = second-stays old.ended old.second bytes (omega arith) in
+    let kept : new ≡ record { ended = line_number old.ended; second = second_after old.ended old.second bytes; line = []; fault = old.fault } = after
+    ∙ ap (λ j. record old { ended = j }) is ∙ ap (λ (l : List ℕ). record {
+      ended = line_number old.ended;
+      second = old.second;
+      line = l;
+      fault = old.fault;
+    }) empty ∙ ap (λ v. record { ended = line_number old.ended; second = v; line = []; fault = old.fault }) (sym same) in
+    whole_turn old new more n (Ok o) none empty within feed (omega (arith, ap length empty)) plain answer kept
+
 -- the answer to a stamp line and its line feed, where no line was open
 pub stamp_turn : (old new : Kept) (more : List ℕ) (n k : ℕ) (s : Stamp) → old.fault ≡ None → old.line ≡ [] → 2 ≤ old.ended → n < length more
     → get_or more n 0 ≡ 10 → BeginsWithLine old.second more (Ok s) n → k ≡ line_number old.ended → new ≡ record old { ended = k }
     → AnswersInTurn old (take (n + 1) more) (Ok (Some (gives.Stamp k s))) new
-unfolding step_answer
-stamp_turn old new more n k s none empty late within feed line is after =
-    let bytes : List ℕ = take n more in
-    let says : short_says old.second k bytes ≡ Ok (Some (gives.Stamp k s)) = line.says k (omega arith) in
-    let answer : Ok (Some (gives.Stamp k s)) ≡ unless_faulty old.fault
-        (at_line (line_number old.ended) (short_says old.second (line_number old.ended) bytes)) =
-        sym (ap (λ f. unless_faulty f (at_line (line_number old.ended) (short_says old.second (line_number old.ended) bytes))) none
-        ∙ ap (λ j. at_line j (short_says old.second j bytes)) (sym is) ∙ ap (at_line k) says) in
-    let same : second_after old.ended old.second bytes ≡ old.second = second-stays old.ended old.second bytes (omega arith) in
-    let kept : new ≡ record { ended = line_number old.ended; second = second_after old.ended old.second bytes; line = []; fault = old.fault } = after
-        ∙ ap (λ j. record old { ended = j }) is ∙ ap (λ (l : List ℕ). record { ended = line_number old.ended; second = old.second; line = l;
-        fault = old.fault }) empty ∙ ap (λ v. record { ended = line_number old.ended; second = v; line = []; fault = old.fault }) (sym same) in
-    whole_turn old new more n (Ok (Some (gives.Stamp k s))) none empty within feed (omega (arith, ap length empty, line.room))
-        (above_feed bytes line.inner) answer kept
+stamp_turn old new more n k s none empty late within feed line is after = said_turn old new more n k (Some (gives.Stamp k s)) none empty late within
+    feed line.room (above_feed (take n more) line.inner) is (line.says k (omega arith)) after
+
+-- an empty line from 3 on gives nothing
+empty-says : (second : Bool) (k : ℕ) → 2 < k → short_says second k [] ≡ Ok None
+empty-says second k late =
+    let not_first : eqb k 1 ≡ false = grind (arith, nat_tests) in
+    let not_next : eqb k 2 ≡ false = grind (arith, nat_tests) in
+    ap (λ t. cond t (version_says []) (cond (eqb k 2) (freq_says second []) (Ok None))) not_first
+    ∙ ap (λ t. cond t (freq_says second []) (Ok None)) not_next
+
+-- the answer to the line feed of an empty line
+pub empty_turn : (old new : Kept) (more : List ℕ) (k : ℕ) → old.fault ≡ None → old.line ≡ [] → 2 ≤ old.ended → 0 < length more
+    → get_or more 0 0 ≡ 10 → k ≡ line_number old.ended → new ≡ record old { ended = k } → AnswersInTurn old (take 1 more) (Ok None) new
+empty_turn old new more k none empty late some feed is after =
+    said_turn old new more 0 k None none empty late some feed (omega arith) (λ j d l. absurd (omega arith)) is
+    (empty-says old.second k (omega arith)) after

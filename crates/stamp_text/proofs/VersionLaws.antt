@@ -32,9 +32,9 @@ pieces-behind [] rest = refl
 pieces-behind (x ∷ xs) rest =
     let some = some_piece xs in
     let onto : onto_first x (pieces_of xs ++ pieces_of rest) ≡ onto_first x (pieces_of xs)
-        ++ pieces_of rest = subst (λ (ps : List (List ℕ)). onto_first x (ps ++ pieces_of rest) ≡ onto_first x ps ++ pieces_of rest) (sym some.2) refl in
+    ++ pieces_of rest = subst (λ (ps : List (List ℕ)). onto_first x (ps ++ pieces_of rest) ≡ onto_first x ps ++ pieces_of rest) (sym some.2) refl in
     elim (eqb x 32) as (λ t. cond t ([] ∷ pieces_of (xs ++ 32 ∷ rest)) (onto_first x (pieces_of (xs ++ 32 ∷ rest))) ≡ cond t ([] ∷ pieces_of xs)
-        (onto_first x (pieces_of xs)) ++ pieces_of rest) [
+    (onto_first x (pieces_of xs)) ++ pieces_of rest) [
       | true ↦ ap (λ (ps : List (List ℕ)). [] ∷ ps) (pieces-behind xs rest)
       | false ↦ ap (onto_first x) (pieces-behind xs rest) ∙ onto
     ]
@@ -47,7 +47,7 @@ numbers-first None b c d e f s is = absurd (cc)
 first-number : (a : List ℕ) (rest : List (List ℕ)) (s : Stamp) → stamp_of_pieces (a ∷ rest) ≡ Ok s → (n : ℕ) × (number_in a ≡ Some n)
 first-number a (b ∷ c ∷ d ∷ e ∷ f ∷ []) s is =
     let split : (t : Bool) → cond t (Err why.Columns) (stamp_of_numbers (number_in a) (time_in b) (time_in c) (number_in d) (number_in e)
-        (number_in f)) ≡ Ok s → (n : ℕ) × (number_in a ≡ Some n) =
+    (number_in f)) ≡ Ok s → (n : ℕ) × (number_in a ≡ Some n) =
     elim [ true ↦ λ is. absurd (cc) | false ↦ λ is. numbers-first (number_in a) (time_in b) (time_in c) (number_in d) (number_in e) (number_in f) s is ] in
     split (is_empty a || is_empty b || is_empty c || is_empty d || is_empty e || is_empty f) is
 first-number a [] s is = absurd (cc)
@@ -78,8 +78,14 @@ IsPlain s = is_unsynchronised s ≡ false
 
 plain-within : (a : ℕ) (b c : Written) (d : ℕ) → IfOk (stamp_within a b c d 1 0) IsPlain
 plain-within a b c d = elim (ltb a 4611686018427387904 && ltb b.sec 4294967296 && ltb c.sec 4294967296 && ltb d 4611686018427387904 && true
-    && true) as (λ t. IfOk {E = Why} (cond t (Ok (record { ta = a; tb = of_nanos b.sec b.nanos; te = of_nanos c.sec c.nanos; tf = d; stratum = 1;
-    leap = 0 })) (Err why.Range)) IsPlain) [ true ↦ refl | false ↦ tt ]
+    && true) as (λ t. IfOk {E = Why} (cond t (Ok (record {
+      ta = a;
+      tb = of_nanos b.sec b.nanos;
+      te = of_nanos c.sec c.nanos;
+      tf = d;
+      stratum = 1;
+      leap = 0;
+    })) (Err why.Range)) IsPlain) [ true ↦ refl | false ↦ tt ]
 
 plain-numbers : (a : Option ℕ) (b c : Option Written) (d : Option ℕ) → IfOk (stamp_of_numbers a b c d (Some 1) (Some 0)) IsPlain
 plain-numbers (Some a) (Some b) (Some c) (Some d) = plain-within a b c d
@@ -120,7 +126,7 @@ first-text : (n : ℕ) (line : List ℕ) → IfOk (text_says false n line) Gives
 unfolding item_in stamp_in
 first-text n line =
     one-of GivesFirst (eqb n 1) (version_says line) _ (one-of GivesFirst (bytes_eq line (codes "radclock-stamps 1") || is_second line) (Ok None)
-        (Err why.Head) tt tt)
+    (Err why.Head) tt tt)
     (one-of GivesFirst (eqb n 2) (freq_says false line) (entry_says false n line) (first-head (freq_in line))
     (one-of GivesFirst (is_skipped line) (Ok None) (item_at n (item_in false line)) tt (first-item n (stamp_in line) (plain-pieces (pieces_of line)))))
 
@@ -133,8 +139,8 @@ first-lines : (n : ℕ) (lines : List (List ℕ)) → AllByRecursion IsOfFirst (
 first-lines n [] = tt
 first-lines n (line ∷ lines) =
     first-on (line_says false n line) (given_from false (n + 1) lines)
-        (one-of GivesFirst (ltb 255 (length line)) (Err why.LongLine) (short_says false n line) tt (first-text n (without_return line)))
-        (first-lines (n + 1) lines)
+    (one-of GivesFirst (ltb 255 (length line)) (Err why.LongLine) (short_says false n line) tt (first-text n (without_return line)))
+    (first-lines (n + 1) lines)
 
 -- such lines give stamps alone
 first-stamps : (lines : List Line) → AllByRecursion IsOfFirst lines → items_among lines ≡ map item.Stamp (stamps_among lines)
@@ -159,5 +165,5 @@ file-accepts freq text is =
     let lines : List Line = given_from false 1 (file_lines text) in
     let all = first-lines 1 (file_lines text) in
     subst (λ (v : Bool). accepted_of freq (given_from v 1 (file_lines text)) ≡ map item.Stamp
-        (accepted_of_lines freq (given_from v 1 (file_lines text)))) (sym is)
+    (accepted_of_lines freq (given_from v 1 (file_lines text)))) (sym is)
     (ap (accepted_items freq []) (first-stamps lines all) ∙ stamps-alone freq [] (stamps_among lines) (first-plain lines all))

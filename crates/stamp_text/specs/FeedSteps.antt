@@ -35,8 +35,12 @@ abbrev pub second_after : ℕ → Bool → List ℕ → Bool
 second_after ended second line = if ended == 0 then is_second (without_return line) else second
 
 abbrev pub step_kept : Kept → ℕ → Result (Option Line) LineFault → Kept
-step_kept k b (Ok o) = if b == line_feed then record { ended = line_number k.ended; second = second_after k.ended k.second k.line; line = [];
-    fault = k.fault } else record k { line = k.line ++ b ∷ [] }
+step_kept k b (Ok o) = if b == line_feed then record {
+  ended = line_number k.ended;
+  second = second_after k.ended k.second k.line;
+  line = [];
+  fault = k.fault;
+} else record k { line = k.line ++ b ∷ [] }
 step_kept k b (Err f) = record k { fault = Some f }
 
 abbrev pub second_line : ℕ → Result (Option Line) LineFault → Result (Option Line) LineFault

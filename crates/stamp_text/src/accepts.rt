@@ -39,6 +39,7 @@ pub enum Refused {
 }
 
 // The server took longer than the round trip.
+#[inline(always)]
 fn is_acausal(s: &Stamp, freq: u64) -> bool
     requires low { 1000000 ≤ freq }
     requires high { freq ≤ 16000000000 }
@@ -55,6 +56,7 @@ fn is_acausal(s: &Stamp, freq: u64) -> bool
 ///
 /// `freq` is the counter's nominal frequency in Hz. After the checks that Veitch, Ridoux and Korada
 /// make on a stamp before they use it.
+#[inline(always)]
 #[tactic(auto, unfolding(crate::specs::Accepted::accept_of))]
 pub fn accept(prev: Option<&Stamp>, s: &Stamp, freq: u64) -> Result<(), Refused>
     requires low { 1000000 ≤ freq }

@@ -1,5 +1,5 @@
 // A reader of stamp files that takes one byte at a time, or those up to the end of a line.
-ghost use Rattle.std.specs.Prelude.{◌≡◌, ◌≢◌, IfOk, IfErr, IfSome, IfNone, OnOk, OnSome, ℕ, ◌+◌, ◌^◌, ◌<◌, ◌≤◌, List, [], ◌∷◌, ◌++◌, length, take, Bool, true, None, Some, Ok, Err};
+ghost use Rattle.std.specs.Prelude.{◌≡◌, ◌≢◌, IfOk, IfErr, IfSome, IfNone, OnOk, OnSome, ℕ, ◌+◌, ◌^◌, ◌<◌, ◌≤◌, List, [], ◌∷◌, ◌++◌, length, take, Bool, true, false, None, Some, Ok, Err};
 ghost use Rattle.stamp_text.specs.Cut.{without_return};
 ghost use Rattle.stamp_text.specs.Grammar.{entry_says, freq_says, head_of, is_second, line_of, short_says, text_says, version_says};
 ghost use Rattle.stamp_text.specs.Accepted.{IsLineInRange};
@@ -193,6 +193,7 @@ impl Feed {
     /// fault, and answers how many it took and what they give. It is as if each had been given to
     /// `byte` in turn, and `byte` had answered nothing to each but the last. A fault that was found
     /// before is answered again, and then no byte is taken.
+    #[inline(always)]
     pub fn bytes(&mut self, more: &[u8]) -> (usize, Result<Option<Line>, LineFault>)
         ensures within { result.0 ≤ length more.now }
         ensures goes_on { OnOk result.1 (0 < length more.now → 0 < result.0) }
@@ -214,6 +215,7 @@ impl Feed {
         self.take(more)
     }
 
+    #[inline(always)]
     fn take(&mut self, more: &[u8]) -> (usize, Result<Option<Line>, LineFault>)
         ensures within { result.0 ≤ length more.now }
         ensures goes_on { OnOk result.1 (0 < length more.now → 0 < result.0) }
@@ -223,12 +225,43 @@ impl Feed {
     {
         match self.stamp_line(more) {
             Some((count, line)) => (count, Ok(Some(line))),
+            None if self.empty_line(more) => (1, Ok(None)),
             None => self.part(more),
         }
     }
 
+    // No line is open, no fault was found, and both lines of the head have ended.
+    #[inline(always)]
+    fn is_before_entry(&self) -> bool
+        ensures sound { result ≡ true → self.now.fault ≡ None }
+        ensures empty { result ≡ true → self.now.line ≡ [] }
+        ensures late { result ≡ true → 2 ≤ self.now.ended }
+    {
+        self.fault.is_none() && self.line.is_empty() && self.ended >= 2
+    }
+
+    // Takes the line feed of an empty line, where no line is open and the next byte is one.
+    #[inline(always)]
+    fn empty_line(&mut self, more: &[u8]) -> bool
+        ensures some { result ≡ true → 0 < length more.now }
+        ensures sound { result ≡ true → self.old.fault ≡ None }
+        ensures in_turn { result ≡ true → AnswersInTurn self.old (take 1 more.now) (Ok None) self.new }
+        ensures none { result ≡ false → self.new ≡ self.old }
+    {
+        if !self.is_before_entry() {
+            return false;
+        }
+        if more.is_empty() || more[0] != b'\n' {
+            return false;
+        }
+        let line = self.ended.saturating_add(1);
+        self.ended = line;
+        true
+    }
+
     // Takes a stamp line with its line feed, where no line is open and the next bytes are such a
     // line for sure. Other lines are left to `part`.
+    #[inline(always)]
     fn stamp_line(&mut self, more: &[u8]) -> Option<(usize, Line)>
         ensures within { IfSome result (λ p. p.0 ≤ length more.now) }
         ensures goes_on { IfSome result (λ p. 0 < p.0) }
@@ -237,7 +270,7 @@ impl Feed {
             (λ p. AnswersInTurn self.old (take p.0 more.now) (Ok (Some p.1)) self.new) }
         ensures none { IfNone result (self.new ≡ self.old) }
     {
-        if self.fault.is_some() || !self.line.is_empty() || self.ended < 2 {
+        if !self.is_before_entry() {
             return None;
         }
         let [b'0'..=b'9', ..] = more else {

@@ -112,6 +112,7 @@ pub fn number_ahead(text: &[u8]) -> Option<(u64, usize)>
 }
 
 // The value of digits with as many zeros behind it as nine digits have.
+#[inline(always)]
 pub fn filled(value: u64, digits: usize) -> u64
     requires few { digits ≤ 9 }
     requires below { value < 10 ^ digits }

@@ -51,6 +51,7 @@ impl Default for Past {
 }
 
 // A count is not behind one before it, if there is one.
+#[inline(always)]
 fn is_not_behind(count: u64, before: Option<u64>) -> bool
     ensures { result ≡ is_not_behind count before }
 {
@@ -60,6 +61,7 @@ fn is_not_behind(count: u64, before: Option<u64>) -> bool
     }
 }
 
+#[inline(always)]
 fn is_unsynchronised(s: &Stamp) -> bool
     ensures { result ≡ is_unsynchronised s.now }
 {
@@ -106,6 +108,7 @@ fn is_unannounced(leap: i8, stamp: Option<&Stamp>) -> bool
 }
 
 // The tests of a stamp behind those of its times.
+#[inline(always)]
 fn later_tests(set: Option<u64>, s: &Stamp) -> Result<(), Refused>
     ensures { result ≡ first_that_holds (later_tests set s.now) }
 {
@@ -139,6 +142,7 @@ impl Past {
     }
 
     // The tests of each kind.
+    #[inline(always)]
     #[tactic(auto, unfolding(crate::specs::Past::test_of))]
     fn test_stamp(&self, s: &Stamp, freq: u64) -> Result<(), Refused>
         requires low { 1000000 ≤ freq }
@@ -186,6 +190,7 @@ impl Past {
     /// none holds it is accepted, and else nothing changes.
     ///
     /// `freq` is the counter's nominal frequency in Hz.
+    #[inline(always)]
     pub fn stamp(&mut self, s: &Stamp, freq: u64) -> Result<(), Refused>
         requires low { 1000000 ≤ freq }
         requires high { freq ≤ 16000000000 }

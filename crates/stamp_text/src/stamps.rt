@@ -25,6 +25,7 @@ const STRATA: u64 = 256;
 const LEAPS: u64 = 4;
 
 // The stamp of version 1 of two counters and two times, if they are in their ranges.
+#[inline(always)]
 fn stamp_within_ranges(ta: u64, tb: Written, te: Written, tf: u64) -> Result<Stamp, Why>
     requires tb { tb.nanos < 1000000000 }
     requires te { te.nanos < 1000000000 }
@@ -45,6 +46,7 @@ fn stamp_within_ranges(ta: u64, tb: Written, te: Written, tf: u64) -> Result<Sta
 }
 
 // The stamp of two counters and two times, with a stratum and a leap, if they are in their ranges.
+#[inline(always)]
 fn stamp_within(
     ta: u64,
     tb: Written,

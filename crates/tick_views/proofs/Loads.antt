@@ -594,7 +594,8 @@ module _ (w : World) (back : (m : ℕ) (h : Hands) → get_elem? w.journal m ≡
                 };
                 later = f.later;
                 reached = f.reached;
-                counts = new_read ask.kind ask.given (counter_of s) (unpack s.fields) (counts_of log) (λ needs. absurd (true≢false (sym needs ∙ ap needs_even e)));
+                counts = new_read ask.kind ask.given (counter_of s) (unpack s.fields) (counts_of log)
+                    (λ needs. absurd (true≢false (sym needs ∙ ap needs_even e)));
               }
           entry false same = let tick = f.tick in let near = f.near in let whole = (both_true (has_fields s) _ is).0 in record {
             fits = subst (λ z. FitsAgain w z s.first (full_mark s.tick) (w.marks s.tick)) (sym e)

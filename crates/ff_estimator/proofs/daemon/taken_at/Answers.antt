@@ -11,7 +11,7 @@ returns-clause-bounded c =
     let bounded = c.requires.bounded in
     let order = c.requires.order.0 in
     let within : IsWithin c.predicted_by-predicted.result c.args.now = subst (λ (p : ℤ × ℕ). IsWithin p c.args.now)
-        (sym c.predicted_by-predicted.ensures) (predicted-within rate t c.args.before c.args.now (omega arith) c.requires.bound c.requires.later bounded) in
+    (sym c.predicted_by-predicted.ensures) (predicted-within rate t c.args.before c.args.now (omega arith) c.requires.bound c.requires.later bounded) in
     subst (λ (t : Taken). IsTakenBounded t c.args.now) (sym c.chosen.ensures)
-        (chosen-bounded _ t.run c.predicted_by-predicted.result c.mean_at-mean.result c.args.now bounded.run within c.mean_at-mean.ensures.time
-        c.mean_at-mean.ensures.spread)
+    (chosen-bounded _ t.run c.predicted_by-predicted.result c.mean_at-mean.result c.args.now bounded.run within c.mean_at-mean.ensures.time
+    c.mean_at-mean.ensures.spread)

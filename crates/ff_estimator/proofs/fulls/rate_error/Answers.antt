@@ -10,5 +10,5 @@ div_ceil-requires c = omega (arith, period-positive c.args.freq c.args.rate.now 
 pub overflow_cast-result : goal.overflow_cast-result
 overflow_cast-result c =
     let parts : c.div_ceil.result ≡ rate_parts c.args.rate.now = c.div_ceil.ensures
-        ∙ ap₂ (λ e p. div_ceil (1000000000000 * e) p) (c.from.ensures ∙ c.error.ensures) c.from-2.ensures in
+    ∙ ap₂ (λ e p. div_ceil (1000000000000 * e) p) (c.from.ensures ∙ c.error.ensures) c.from-2.ensures in
     omega (arith, parts, rate_parts-fit c.args.freq c.args.rate.now c.requires.low c.requires.high c.requires.order)

@@ -8,12 +8,23 @@ use Rattle.ff_estimator.proofs.WeighingLaws.{terms_at_rate, terms_bounded}
 use Rattle.ff_estimator.proofs.means.mean.Goals as goal
 
 pub weigh_all-requires-clause-few : goal.weigh_all-requires-clause-few
-weigh_all-requires-clause-few c = omega (arith, c.new-sums.ensures.added, ap length c.from_place.ensures.value,
-    length-append c.from_place.result.0.now c.from_place.result.1.now, length-drop c.args.from c.args.window.now.stamps)
+weigh_all-requires-clause-few c = omega (
+  arith,
+  c.new-sums.ensures.added,
+  ap length c.from_place.ensures.value,
+  length-append c.from_place.result.0.now c.from_place.result.1.now,
+  length-drop c.args.from c.args.window.now.stamps,
+)
 
 pub weigh_all-requires-2-clause-few : goal.weigh_all-requires-2-clause-few
-weigh_all-requires-2-clause-few c = omega (arith, c.weigh_all.ensures.added, c.new-sums.ensures.added, ap length c.from_place.ensures.value,
-    length-append c.from_place.result.0.now c.from_place.result.1.now, length-drop c.args.from c.args.window.now.stamps)
+weigh_all-requires-2-clause-few c = omega (
+  arith,
+  c.weigh_all.ensures.added,
+  c.new-sums.ensures.added,
+  ap length c.from_place.ensures.value,
+  length-append c.from_place.result.0.now c.from_place.result.1.now,
+  length-drop c.args.from c.args.window.now.stamps,
+)
 
 pub at_rate-requires : goal.at_rate-requires
 at_rate-requires c =
@@ -32,4 +43,4 @@ returns-clause-mean c =
     let f = term_of c.args.freq c.args.base c.args.rate.now c.args.now in
     let stamps = c.from_place.result.0.now ++ c.from_place.result.1.now in
     c.time.ensures.mean (map f stamps) (subst (λ k. StandsFor k (map f stamps)) (sym c.at_rate.ensures) terms)
-        ∙ ap (λ xs. mean_of (map f xs)) c.from_place.ensures.value
+    ∙ ap (λ xs. mean_of (map f xs)) c.from_place.ensures.value

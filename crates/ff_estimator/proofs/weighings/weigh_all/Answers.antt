@@ -15,7 +15,7 @@ loop-s-preserved c = record {
 pub loop-s-preserved-then-s-longest : goal.loop-s-preserved-then-s-longest
 loop-s-preserved-then-s-longest c =
     let none = long_weightless c.args.freq c.args.base c.args.now c.weightless_from.result c.saturating_add-longest.result _
-        c.weightless_from.ensures c.saturating_add-longest.ensures c.if-s-longest.true (c.requires.timed c.loop-s.s-index _ c.loop-s-test.true) in
+    c.weightless_from.ensures c.saturating_add-longest.ensures c.if-s-longest.true (c.requires.timed c.loop-s.s-index _ c.loop-s-test.true) in
     record {
       few = omega arith;
       bounded = c.loop-s.invariant.bounded;
@@ -27,4 +27,4 @@ loop-s-preserved-then-s-longest c =
 pub returns-clause-stands : goal.returns-clause-stands
 returns-clause-stands c before was =
     subst (AreSums c.args.freq c.args.base c.args.now c.loop-s.sums)
-        (ap (λ xs. before ++ xs) (take_all c.loop-s.s-index c.args.stamps.now c.loop-s-test.false)) (c.loop-s.invariant.stands before was)
+    (ap (λ xs. before ++ xs) (take_all c.loop-s.s-index c.args.stamps.now c.loop-s-test.false)) (c.loop-s.invariant.stands before was)

@@ -22,17 +22,17 @@ pub returns-in-Some : goal.returns-in-Some
 returns-in-Some c =
     let before = subst (λ (o : Option Deviation). IsFoundBefore c.args.world.now c.args.ticks.now c.args.n o) c.in-Some.is c.requires.before in
     stays-farthest c.args.world.now c.args.ticks.now c.args.n _ (slice_get-get_or c.args.ticks.now c.args.n _ c.requires.there) c.in-Some.f _
-        c.distance.ensures before c.if-found-f.true
+    c.distance.ensures before c.if-found-f.true
 
 pub returns-in_default : goal.returns-in_default
 returns-in_default c =
     let before = subst (λ (o : Option Deviation). IsFoundBefore c.args.world.now c.args.ticks.now c.args.n o) c.in-Some.is c.requires.before in
     rw (c.distance.ensures, c.bound.ensures) (comes-farthest c.args.world.now c.args.ticks.now c.args.n _
-        (slice_get-get_or c.args.ticks.now c.args.n _ c.requires.there) c.in-Some.f c.requires.behind before
-        (omega (arith, c.distance.ensures, c.if-found-f.false)))
+    (slice_get-get_or c.args.ticks.now c.args.n _ c.requires.there) c.in-Some.f c.requires.behind before
+    (omega (arith, c.distance.ensures, c.if-found-f.false)))
 
 pub returns-in_default-2 : goal.returns-in_default-2
 returns-in_default-2 c =
     let before = subst (λ (o : Option Deviation). IsFoundBefore c.args.world.now c.args.ticks.now c.args.n o) c.in_default.is c.requires.before in
     rw (c.distance.ensures, c.bound.ensures) (comes-first c.args.world.now c.args.ticks.now c.args.n _
-        (slice_get-get_or c.args.ticks.now c.args.n _ c.requires.there) c.requires.behind before)
+    (slice_get-get_or c.args.ticks.now c.args.n _ c.requires.there) c.requires.behind before)

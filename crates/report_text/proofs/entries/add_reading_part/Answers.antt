@@ -7,6 +7,13 @@ pub returns-clause-text : goal.returns-clause-text
 unfolding reading_part
 returns-clause-text c =
     let r = c.args.r.now in
-    rw (c.word-2.ensures, c.kind_name.ensures.name, c.column-2.ensures.text, c.column.ensures.text, c.time_column.ensures.text, c.word.ensures,
-        c.wide.ensures.text)
+    rw (
+      c.word-2.ensures,
+      c.kind_name.ensures.name,
+      c.column-2.ensures.text,
+      c.column.ensures.text,
+      c.time_column.ensures.text,
+      c.word.ensures,
+      c.wide.ensures.text,
+    )
     (reading_made (codes " ") (kind_name r.kind) (decimal r.tick) (decimal r.count) (time_text r.time) (decimal r.bound) c.args.line.now)

@@ -7,7 +7,16 @@ pub returns-clause-text : goal.returns-clause-text
 unfolding given_part
 returns-clause-text c =
     let e = c.args.e.now in
-    rw (c.time.ensures.text, c.column-4.ensures.text, c.column-3.ensures.text, c.column-2.ensures.text, c.from-2.ensures, c.column.ensures.text,
-        c.from.ensures, c.word.ensures, c.add_marks.ensures.text)
+    rw (
+      c.time.ensures.text,
+      c.column-4.ensures.text,
+      c.column-3.ensures.text,
+      c.column-2.ensures.text,
+      c.from-2.ensures,
+      c.column.ensures.text,
+      c.from.ensures,
+      c.word.ensures,
+      c.add_marks.ensures.text,
+    )
     (estimate_made (codes " ") (time_text e.update_time) (decimal e.update_ffcount) (decimal e.period) (decimal e.errb_abs) (decimal e.errb_rate)
-        (marks_text e.status) c.args.line.now)
+    (marks_text e.status) c.args.line.now)

@@ -15,4 +15,4 @@ returns-in-Some-clause-time c =
     let fraction = c.in-Some.fraction.now in
     let time = time_cut text whole fraction c.in-Some.ensures.found c.in-Some.ensures.before c.in-Some.ensures.behind in
     c.written_of-in-Some.ensures.written ∙ time_told text whole c.number_of-in-Some.result (nanos_in fraction) c.nanos_of.result time
-        c.number_of-in-Some.ensures c.nanos_of.ensures.nanos
+    c.number_of-in-Some.ensures c.nanos_of.ensures.nanos

@@ -11,9 +11,11 @@ loop-digit-preserved c =
     let i = c.loop-digit.digit-index in
     let d = get_or ds i 0 in
     let step = at_drop_more (value_from v) ds i 0 (omega arith) in
-    let next : c.saturating_add-value.result ≡ min (v * 10 + (d - 48)) (2 ^ 64 - 1) = omega arith in
-    (omega arith, ap (λ n. min (value_from n (drop (i + 1) ds)) (2 ^ 64 - 1)) next
-        ∙ value_from_capped (2 ^ 64 - 1) (v * 10 + (d - 48)) (drop (i + 1) ds) ∙ ap (λ n. min n (2 ^ 64 - 1)) (sym step) ∙ c.loop-digit.invariant.1)
+    let next : c.saturating_add-value.result ≡ min (v * 10 + (d - 48)) (2 ^ 64 - 1) = omega arith in (
+      omega arith,
+      ap (λ n. min (value_from n (drop (i + 1) ds)) (2 ^ 64 - 1)) next
+          ∙ value_from_capped (2 ^ 64 - 1) (v * 10 + (d - 48)) (drop (i + 1) ds) ∙ ap (λ n. min n (2 ^ 64 - 1)) (sym step) ∙ c.loop-digit.invariant.1,
+    )
 
 pub returns : goal.returns
 returns c =

@@ -8,4 +8,4 @@ returns-then-text-count-eq32 c =
     let text = c.args.text.now in
     let n = c.in_ok-value.count in
     subst (IsNumberPiece text c.in_ok-value.value) (sym (rest_of text (n + 1)))
-        (number_first text n c.in_ok-value.value c.in_ok-value.ensures c.if-count-text.true c.if-text-count-eq32.true)
+    (number_first text n c.in_ok-value.value c.in_ok-value.ensures c.if-count-text.true c.if-text-count-eq32.true)

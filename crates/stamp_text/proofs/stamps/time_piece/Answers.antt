@@ -13,6 +13,6 @@ returns-clause-piece c =
     let point : get_or text n 0 ≡ 46 = omega (arith, c.if-text-count-ne46.false) in
     let space : get_or rest m 0 ≡ 32 = omega (arith, c.if-rest-digits-ne32.false) in
     let told = nanos_ahead rest m c.in_ok-value.value c.filled-nanos.result (omega (arith, c.if-digits-eq0.false)) c.if-digits-gt-NANO_DIGITS.false
-        ahead.within ahead.digits ahead.value c.filled-nanos.ensures.value in
+    ahead.within ahead.digits ahead.value c.filled-nanos.ensures.value in
     subst (IsTimePiece text _) (sym (rest_of rest (m + 1))) (time_first text rest n m c.in_ok-sec.sec c.filled-nanos.result (rest_of text (n + 1))
-        c.in_ok-sec.ensures c.if-count-text.false point c.if-digits-gt-NANO_DIGITS.false c.if-digits-rest.false ahead.digits told space)
+    c.in_ok-sec.ensures c.if-count-text.false point c.if-digits-gt-NANO_DIGITS.false c.if-digits-rest.false ahead.digits told space)

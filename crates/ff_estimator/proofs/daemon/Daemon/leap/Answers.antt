@@ -21,10 +21,10 @@ invariant_of-self-2 c =
     let sign : to_z w8 (of_z w8 c.args.leap) ≡ c.args.leap = sign-back c.args.leap c.requires.range.sign in
     let passed : c.leap.result ≡ Ok tt = grind (arith, common_steps) in
     leap-holds _ c.leap.new.self c.leaps_with-self-inside.result c.self.inside.freq c.args.count c.args.leap c.leap.result c.requires.range
-        c.self.invariant (c.leap.ensures.test c.self.inside.freq
-        ∙ ap (λ z. test_of c.self.inside.freq c.self.inside.past (item.Leap c.args.count z)) sign) passed
-        (c.leap.ensures.after ∙ ap (λ z. seen_after c.self.inside.past (item.Leap c.args.count z) c.leap.result) sign)
-        (c.leaps_with-self-inside.ensures ∙ ap (leaps_with c.self.inside.leaps c.args.count) sign)
+    c.self.invariant (c.leap.ensures.test c.self.inside.freq
+    ∙ ap (λ z. test_of c.self.inside.freq c.self.inside.past (item.Leap c.args.count z)) sign) passed
+    (c.leap.ensures.after ∙ ap (λ z. seen_after c.self.inside.past (item.Leap c.args.count z) c.leap.result) sign)
+    (c.leaps_with-self-inside.ensures ∙ ap (leaps_with c.self.inside.leaps c.args.count) sign)
 
 pub returns-clause-stands : goal.returns-clause-stands
 returns-clause-stands c freq items was =
@@ -35,6 +35,6 @@ returns-clause-stands c freq items was =
     let old : Kept = record { window = c.self.inside.window; taken = c.self.inside.taken; past = c.self.inside.past; leaps = c.self.inside.leaps } in
     let holds : Holds old freq = subst (λ f. Holds old f) same c.self.invariant in
     leap-stands old c.leap.new.self c.leaps_with-self-inside.result freq items c.args.count c.args.leap c.leap.result holds stood
-        (c.leap.ensures.test freq ∙ ap (λ z. test_of freq c.self.inside.past (item.Leap c.args.count z)) sign) passed
-        (c.leap.ensures.stands items stood.past ∙ ap (λ z. seen_of (accepted_with items (item.Leap c.args.count z) c.leap.result)) sign)
-        (c.leaps_with-self-inside.ensures ∙ ap (leaps_with c.self.inside.leaps c.args.count) sign)
+    (c.leap.ensures.test freq ∙ ap (λ z. test_of freq c.self.inside.past (item.Leap c.args.count z)) sign) passed
+    (c.leap.ensures.stands items stood.past ∙ ap (λ z. seen_of (accepted_with items (item.Leap c.args.count z) c.leap.result)) sign)
+    (c.leaps_with-self-inside.ensures ∙ ap (leaps_with c.self.inside.leaps c.args.count) sign)

@@ -11,7 +11,7 @@ invariant_of-self c =
     let l = c.self.inside in
     let few : l.count < 2 ^ 62 = omega (arith, c.requires.few, ap (λ k. k.count) c.self.view_is) in
     lists_add l.nodes c.set_trip.new.self l.count l.windows c.self.invariant (rw (← c.self.view_is) at c.requires.gone) c.set_trip.ensures.links
-        c.set_trip.ensures.others few
+    c.set_trip.ensures.others few
 
 pub returns-clause-kept : goal.returns-clause-kept
 returns-clause-kept c =
@@ -28,7 +28,7 @@ pub returns-clause-does : goal.returns-clause-does
 returns-clause-does c =
     let l = c.self.inside in
     rw (← c.self.view_is) (credit_stays l.nodes c.set_trip.new.self l.count l.windows c.self.invariant (rw (← c.self.view_is) at c.requires.gone)
-        c.set_trip.ensures.links c.set_trip.ensures.others (invariant_of-self c))
+    c.set_trip.ensures.links c.set_trip.ensures.others (invariant_of-self c))
 
 pub returns-clause-credit : goal.returns-clause-credit
 returns-clause-credit c = credit_same _ _ (returns-clause-does c)

@@ -18,7 +18,7 @@ returns-clause-does c =
     let l = c.self.inside in
     let room : c.place-place.result < length l.windows = omega (arith, c.place-place.ensures.within) in
     let at : window c.args.self.now c.args.which ≡ span (window_at l.windows c.place-place.result) = window_of l.nodes l.count l.windows
-        c.args.self.now c.args.which c.place-place.result c.self.view_is c.place-place.ensures.value in
+    c.args.self.now c.args.which c.place-place.result c.self.view_is c.place-place.ensures.value in
     rw (← c.self.view_is) (credit_cut l.nodes l.count l.windows c.place-place.result c.cut.result room c.self.invariant (invariant_of-self c)
     (omega (arith, ap (λ (s : Span). s.from) at, c.cut.ensures.from, c.requires.forward)) c.cut.ensures.to)
 

@@ -13,10 +13,10 @@ invariant_of-self g c =
     let p = c.place-place.result in
     let room : c.place-place.result < length l.windows = omega (arith, c.place-place.ensures.within) in
     let to : (window c.args.self.now c.args.which).to ≡ (window_at l.windows p).to = ap (λ (s : Span). s.to)
-        (window_of l.nodes l.count l.windows c.args.self.now c.args.which p c.self.view_is c.place-place.ensures.value) in
+    (window_of l.nodes l.count l.windows c.args.self.now c.args.which p c.self.view_is c.place-place.ensures.value) in
     let count : l.count ≡ c.args.self.now.count = ap (λ k. k.count) c.self.view_is in
     lists_enter l.windows p c.enter.result room l.nodes c.enter.new.nodes l.count c.self.invariant c.enter.ensures.enters c.args.which
-        c.place-place.ensures.value (omega (arith, c.requires.added)) (omega (arith, c.requires.kept))
+    c.place-place.ensures.value (omega (arith, c.requires.added)) (omega (arith, c.requires.kept))
 
 pub returns-clause-does : goal.returns-clause-does
 returns-clause-does g c =

@@ -15,7 +15,7 @@ loop-before-preserved g c =
     let last : ℕ = c.loop-before.before - 1 in
     let before : ℕ = c.link-before.result.before in
     let is : IsBefore trip from last before = subst (IsBefore trip from last) (sym (ap (λ l. l.before) c.link-before.ensures))
-        (c.requires.linked.befores last (omega arith) (omega arith)) in
+    (c.requires.linked.befores last (omega arith) (omega arith)) in
     let above_next : trip c.args.self.to < trip last = grind (arith, common_steps) in
     let one_more : last + 1 ≡ c.loop-before.before = omega arith in
     let fewer : lows (trips_between ns from c.loop-before.before) ≡ 1 + lows (trips_between ns from before) =

@@ -17,10 +17,10 @@ returns c =
     let second = c.set_after.ensures in
     let apart : (i : ℕ) → from ≤ i → i < to → i % 1024 ≢ to % 1024 = λ i l h. omega (arith, c.requires.near) in
     let elsewhere : (i : ℕ) → from ≤ i → i < to → i ≢ last → i % 1024 ≢ last % 1024 = λ i l h ne. omega
-        (arith, c.requires.near, c.requires.last, c.requires.before.within) in
+    (arith, c.requires.near, c.requires.last, c.requires.before.within) in
     let same : trip_at new ≡ trip_at old = fun_ext (λ i. second.trips i ∙ first.trips i) in
     let linked = linked_behind (trip_at old) (before_at old at) (after_at old at) (before_at new at) (after_at new at) from to c.args.self.head last
-        c.requires.linked c.requires.last c.requires.before
+    c.requires.linked c.requires.last c.requires.before
     (second.befores to ∙ first.here) (λ i l h. second.befores i ∙ first.others i (apart i l h))
     second.here (λ i l h ne. second.others i (elsewhere i l h ne) ∙ first.afters i) in
     record {

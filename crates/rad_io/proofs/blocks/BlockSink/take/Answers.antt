@@ -15,12 +15,20 @@ returns-then-is_err-clause-err g c =
     let held : c.extend_from_slice.new.self.items ≡ c.self.inside.block.items ++ c.args.front.now = search rules in
     let once = c.push-pushed.ensures.once in
     let fits : length c.self.inside.block.items + length c.args.front.now ≤ 65536 = subst (λ v. length v.block + length c.args.front.now ≤ 65536)
-        (sym c.self.view_is) c.requires.fits in
-    let sized : length c.deref.result.now ≡ 65536 = omega (arith, c.if-len-lt-BLOCK.false, c.len.ensures, c.extend_from_slice.new.self.ok.0,
-        ap length (c.deref.ensures.value ∙ held), ap length c.deref.ensures.value, fits, length-append c.self.inside.block.items c.args.front.now) in
+    (sym c.self.view_is) c.requires.fits in
+    let sized : length c.deref.result.now ≡ 65536 = omega (
+      arith,
+      c.if-len-lt-BLOCK.false,
+      c.len.ensures,
+      c.extend_from_slice.new.self.ok.0,
+      ap length (c.deref.ensures.value ∙ held),
+      ap length c.deref.ensures.value,
+      fits,
+      length-append c.self.inside.block.items c.args.front.now,
+    ) in
     err-from _ _ _ _ _ _ c.args.front.now c.push-pushed.result c.self.view_is
     (block-err _ _ _ _ _ c.args.front.now _ c.push-pushed.result sound refl (c.deref.ensures.value ∙ held) (sink.appends _ _ _ _ once)
-        (sink.cause _ _ _ _ once) (omega (arith, sized), once))
+    (sink.cause _ _ _ _ once) (omega (arith, sized), once))
 
 pub returns-else-is_err-clause-ok : goal.returns-else-is_err-clause-ok
 returns-else-is_err-clause-ok g c =
@@ -29,9 +37,17 @@ returns-else-is_err-clause-ok g c =
     let held : c.extend_from_slice.new.self.items ≡ c.self.inside.block.items ++ c.args.front.now = search rules in
     let once = c.push-pushed.ensures.once in
     let fits : length c.self.inside.block.items + length c.args.front.now ≤ 65536 = subst (λ v. length v.block + length c.args.front.now ≤ 65536)
-        (sym c.self.view_is) c.requires.fits in
-    let sized : length c.deref.result.now ≡ 65536 = omega (arith, c.if-len-lt-BLOCK.false, c.len.ensures, c.extend_from_slice.new.self.ok.0,
-        ap length (c.deref.ensures.value ∙ held), ap length c.deref.ensures.value, fits, length-append c.self.inside.block.items c.args.front.now) in
+    (sym c.self.view_is) c.requires.fits in
+    let sized : length c.deref.result.now ≡ 65536 = omega (
+      arith,
+      c.if-len-lt-BLOCK.false,
+      c.len.ensures,
+      c.extend_from_slice.new.self.ok.0,
+      ap length (c.deref.ensures.value ∙ held),
+      ap length c.deref.ensures.value,
+      fits,
+      length-append c.self.inside.block.items c.args.front.now,
+    ) in
     ok-from _ _ _ _ _ _ c.args.front.now c.push-pushed.result c.self.view_is
     (block-ok _ _ _ _ _ c.args.front.now _ c.push-pushed.result sound sound c.clear.ensures.items (c.deref.ensures.value ∙ held) sized
-        (sink.appends _ _ _ _ once) (sink.cause _ _ _ _ once) (omega (arith, sized), once))
+    (sink.appends _ _ _ _ once) (sink.cause _ _ _ _ once) (omega (arith, sized), once))

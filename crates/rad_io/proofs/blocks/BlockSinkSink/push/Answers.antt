@@ -9,8 +9,10 @@ loop-rest-init g c =
 
 pub returns-in_err-take : goal.returns-in_err-take
 returns-in_err-take g c =
-    record { once = gives-stop _ _ _ _ _ c.args.piece.now _ c.from_residual.ensures.0
-        (taking-stops _ _ _ _ _ _ c.args.piece.now c.loop-rest.rest.now c.min-count.result c.loop-rest.invariant.taking c.in_err-take.ensures.err) }
+    record {
+      once = gives-stop _ _ _ _ _ c.args.piece.now _ c.from_residual.ensures.0
+          (taking-stops _ _ _ _ _ _ c.args.piece.now c.loop-rest.rest.now c.min-count.result c.loop-rest.invariant.taking c.in_err-take.ensures.err);
+    }
 
 pub loop-rest-preserved : goal.loop-rest-preserved
 loop-rest-preserved g c =

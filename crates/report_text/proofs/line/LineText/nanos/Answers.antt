@@ -4,5 +4,11 @@ use Rattle.report_text.proofs.line.LineText.nanos.Goals as goal
 
 pub leading_zeros-requires : goal.leading_zeros-requires
 leading_zeros-requires c =
-    omega (arith, few_digits c.from.result (omega (arith, c.from.ensures, c.requires.below)), c.len.ensures, c.len-behind.ensures,
-        ap length c.number.ensures.text, length-append (decimal c.from.result) c.args.self.now)
+    omega (
+      arith,
+      few_digits c.from.result (omega (arith, c.from.ensures, c.requires.below)),
+      c.len.ensures,
+      c.len-behind.ensures,
+      ap length c.number.ensures.text,
+      length-append (decimal c.from.result) c.args.self.now,
+    )

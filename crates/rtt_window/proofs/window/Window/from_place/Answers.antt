@@ -11,10 +11,10 @@ returns-clause-value c = runs_from c.args.from c.min-first.result c.min-rest.res
 pub returns-clause-timed : goal.returns-clause-timed
 returns-clause-timed c =
     rests_have IsInRange c.min-first.result c.min-rest.result c.as_slices.result.0.now c.as_slices.result.1.now c.self.inside.stamps.items
-        c.as_slices.ensures c.self.invariant.accepted.timed
+    c.as_slices.ensures c.self.invariant.accepted.timed
 
 pub returns-clause-sound : goal.returns-clause-sound
 returns-clause-sound c =
     let all = subst (λ freq. All (IsPlausible freq) c.self.inside.stamps.items) (ap (λ k. k.freq) c.self.view_is) c.self.invariant.accepted.sound in
     rests_have (IsPlausible c.args.self.now.freq) c.min-first.result c.min-rest.result c.as_slices.result.0.now c.as_slices.result.1.now
-        c.self.inside.stamps.items c.as_slices.ensures all
+    c.self.inside.stamps.items c.as_slices.ensures all

@@ -10,11 +10,11 @@ returns-in-1024 c =
     let k = c.args.self.now in
     let few = subst (λ (k : Kept). length k.stamps ≡ min 1024 k.count) c.self.view_is c.self.invariant.few in
     ap (λ n. pair_of n k.stamps) c.in-1024.is ∙ pair_of-spans 1024 k WideOld WideNew c.least_in.result c.least_in-in-1024.result (omega arith)
-        (omega arith) few c.requires.some refl refl c.least_in.ensures.value c.least_in-in-1024.ensures.value
+    (omega arith) few c.requires.some refl refl c.least_in.ensures.value c.least_in-in-1024.ensures.value
 
 pub returns-in-64 : goal.returns-in-64
 returns-in-64 c =
     let k = c.args.self.now in
     let few = subst (λ (k : Kept). length k.stamps ≡ min 1024 k.count) c.self.view_is c.self.invariant.few in
     ap (λ n. pair_of n k.stamps) c.in-64.is ∙ pair_of-spans 64 k NearOld NearNew c.least_in-in-64.result c.least_in-in-64-2.result (omega arith)
-        (omega arith) few c.requires.some refl refl c.least_in-in-64.ensures.value c.least_in-in-64-2.ensures.value
+    (omega arith) few c.requires.some refl refl c.least_in-in-64.ensures.value c.least_in-in-64-2.ensures.value

@@ -15,5 +15,5 @@ returns-clause-in_turn c =
     let is : c.args.answer ≡ Ok s = grind (arith, common_steps, c.in_ok-stamp.ensures.value, c.in_ok-stamp.was) in
     let line : BeginsWithLine old.second more (Ok s) n = subst (λ r. BeginsWithLine old.second more r n) is c.requires.begins in
     stamp_turn old _ more n c.saturating_add-line.result s c.requires.sound c.requires.empty c.requires.late (omega arith) feed line
-        (omega (arith, c.saturating_add-line.ensures, ap (λ k. k.ended) c.self.view_is))
-        (ap {A = Kept} (λ k. record k { ended = c.saturating_add-line.result }) c.self.view_is)
+    (omega (arith, c.saturating_add-line.ensures, ap (λ k. k.ended) c.self.view_is))
+    (ap {A = Kept} (λ k. record k { ended = c.saturating_add-line.result }) c.self.view_is)

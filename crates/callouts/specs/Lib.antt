@@ -1,0 +1,9 @@
+pub mod Timers
+pub mod Nodes
+pub mod Heaps
+pub mod Winners
+pub mod Slots
+pub mod Wheels
+pub mod Lists
+pub mod Queues
+pub mod Firings
