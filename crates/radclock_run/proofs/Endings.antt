@@ -78,7 +78,7 @@ leaves-by report.Stamps text told old new line holds = holds
 leaves-by report.Rtt text told old new line holds = holds
 leaves-by report.Estimate text told old new line holds = holds
 leaves-by (report.Ticks ticks) text told old new line holds = holds
-leaves-by (report.Replay ticks readers reads back crank) text told old new line holds = line
+leaves-by (report.Replay ticks readers reads back crank utc) text told old new line holds = line
 
 module _ {S : Type 0} (left : S → Option (List ℕ)) (faults : S → ℕ) (pull : PullGives S)
     (consumes : EachRead pull (λ old new r room. ReadConsumes (left old) (left new) r room))

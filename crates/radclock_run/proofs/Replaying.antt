@@ -13,7 +13,7 @@ use Rattle.clock_logs.proofs.Climbs.{logs-rise}
 use Rattle.clock_logs.proofs.Latest.{none-ahead}
 use Rattle.tick_desk.specs.Shows.{PenShows, IsFresh, new_passes}
 use Rattle.replay_run.specs.Journals.{greatest, moves_in, taken_in, IsJournalOf}
-use Rattle.replay_run.specs.Logs.{AreOpened, AreReady}
+use Rattle.replay_run.specs.Logs.{AreOpened, AreReady, tried_by}
 use Rattle.replay_run.specs.Plays.{IsKeptLog, IsLogOf, Played}
 use Rattle.replay_run.specs.declared.log.ReadLog.{ReadLog}
 use Rattle.replay_run.specs.declared.plan.Options.{Options}
@@ -107,7 +107,8 @@ module _ (freq : ℕ) (options : Options) (all : List Item) (plan : Plan) (befor
         attempts = λ i k at. (log-of i k at).attempts;
         current = λ i k at. (log-of i k at).since;
         within = λ i k at. (log-of i k at).within;
-        reached = λ i k at. none-ahead new.journal freq options.reads options.back (map entry_of k.entries) (log-of i k at).legal (log-of i k at).attempts;
+        reached = λ i k at. none-ahead new.journal freq options.reads (tried_by options) (map entry_of k.entries) (log-of i k at).legal
+            (log-of i k at).attempts;
         rise = logs-rise new.journal (logs_of new) play.journal.journal legal-logs;
       }
 

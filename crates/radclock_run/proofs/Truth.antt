@@ -56,25 +56,26 @@ file-ranged text sound =
     record { low = freq.low; high = freq.high; timed = items-timed (given_of_file text) (file-in-range text) }
 
 -- a reading by a true tick, where it may be read
-reading-true : (w : World) (ticks : List Hands) (n count : ℕ) (h : Hands) (k : Kind) → IsTrueTick w h → IsPlaced k ticks n count h
-    → IsCovered w k count (number_of (value_of h k count)) (bound_of h k count)
+reading-true : (w : World) (ticks : List Hands) (n count : ℕ) (h : Hands) (k : Kind)
+    → IsTrueTick w h → IsPlaced k ticks n count h → IsCovered w h.est k count (number_of (value_of h k count)) (bound_of h k count)
 reading-true w ticks n count h kind.Abs is place = is kind.Abs count place.reached
 reading-true w ticks n count h kind.Fast is place = is kind.Fast count (sym place)
 reading-true w ticks n count h kind.Diff is place = is kind.Diff count tt
 reading-true w ticks n count h kind.Mono is place = tt
 reading-true w ticks n count h kind.Uptime is place = tt
 reading-true w ticks n count h kind.Back is place = tt
-reading-true w ticks n count h kind.Utc is place = tt
+reading-true w ticks n count h kind.Utc is place = is kind.Utc count place.reached
 
 log-true : (w : World) (ticks : List Hands) (es : List Entry) → AreTrueTicks w ticks → IsLog ticks es → AreTrueReadings w ticks es
 log-true w ticks es are log n r h here at sync =
     let is = log.each n (entry.Read r) here in
     let same : is.hands ≡ h = (let e = sym is.tick ∙ at in cc) in
-    let covered : IsCovered w r.kind r.count (number_of (value_of is.hands r.kind r.count)) (bound_of is.hands r.kind r.count) =
-    reading-true w ticks r.tick r.count is.hands r.kind (are r.tick is.hands is.tick
-    (subst (λ (h : Hands). h.kstatus.unsync ≡ false) (sym same) sync)) is.place in
-    subst (λ b. IsCovered w r.kind r.count (number_of r.time) b) (sym is.bound)
-    (subst (λ (t : Bintime). IsCovered w r.kind r.count (number_of t) (bound_of is.hands r.kind r.count)) (sym is.time) covered)
+    let synced : is.hands.kstatus.unsync ≡ false = subst (λ (h : Hands). h.kstatus.unsync ≡ false) (sym same) sync in
+    let covered : IsCovered w is.hands.est r.kind r.count (number_of (value_of is.hands r.kind r.count)) (bound_of is.hands r.kind r.count) =
+    reading-true w ticks r.tick r.count is.hands r.kind (are r.tick is.hands is.tick synced) is.place in
+    subst (λ (g : Hands). IsCovered w g.est r.kind r.count (number_of r.time) r.bound) same
+    (subst (λ b. IsCovered w is.hands.est r.kind r.count (number_of r.time) b) (sym is.bound)
+    (subst (λ (t : Bintime). IsCovered w is.hands.est r.kind r.count (number_of t) (bound_of is.hands r.kind r.count)) (sym is.time) covered))
 
 All-unmap : {X Y : Type 0} (P : Y → Type 0) (f : X → Y) (xs : List X) → All P (map f xs) → All (λ x. P (f x)) xs
 All-unmap P f xs all i d within = subst P (get_or-map f xs i d (f d) within) (all i (f d) (omega (arith, within, length-map xs f)))
@@ -120,7 +121,7 @@ module _ (w : World) (freq : ℕ) (items : List ItemLine) (ranged : IsRanged fre
   tells-true asked.Rtt old new leaves = tt
   tells-true asked.Estimate old new leaves = all-true w freq (accepted_among freq [] items) ranged.low ranged.high fit accepted lie
   tells-true (asked.Ticks ticks) old new leaves = plays-true freq ticks w (accepted_among freq [] items) ranged.low ranged.high fit accepted lie
-  tells-true (asked.Replay ticks readers reads back crank) old new leaves =
+  tells-true (asked.Replay ticks readers reads back crank utc) old new leaves =
       replay-true w _ freq (accepted_among freq [] items) new.pen ranged.low ranged.high fit accepted lie leaves
 
 -- what a report on a text in the grammar tells

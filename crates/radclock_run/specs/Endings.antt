@@ -27,8 +27,8 @@ Leaves asked.Stamps freq items old new = new ≡ old
 Leaves asked.Rtt freq items old new = new ≡ old
 Leaves asked.Estimate freq items old new = new ≡ old
 Leaves (asked.Ticks ticks) freq items old new = new ≡ old
-Leaves (asked.Replay ticks readers reads back crank) freq items old new =
-    IsReplayed (record { ticks = ticks; readers = readers; reads = reads; back = back; crank = crank }) freq (accepted_among freq [] items) new.pen
+Leaves (asked.Replay ticks readers reads back crank utc) freq items old new =
+    IsReplayed (record { ticks = ticks; readers = readers; reads = reads; back = back; crank = crank; utc = utc }) freq (accepted_among freq [] items) new.pen
 
 -- what a stop leaves of it. Memory may be wanting where passes were made already, but no tick
 abbrev pub LeavesAt : Stop → Desk → Desk → Type 0
@@ -60,4 +60,4 @@ Summarises written faults push a old desk result new desk' =
 
 -- the report on a replay by these options
 abbrev pub replay_by : Options → Report
-replay_by o = asked.Replay o.ticks o.readers o.reads o.back o.crank
+replay_by o = asked.Replay o.ticks o.readers o.reads o.back o.crank o.utc

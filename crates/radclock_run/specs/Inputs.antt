@@ -38,7 +38,7 @@ takes_few report.Stamps = false
 takes_few report.Rtt = false
 takes_few report.Estimate = false
 takes_few (report.Ticks ticks) = true
-takes_few (report.Replay ticks readers reads back crank) = true
+takes_few (report.Replay ticks readers reads back crank utc) = true
 
 -- the items among lines, each with the number of its line
 abbrev pub items_in : List Line → List ItemLine

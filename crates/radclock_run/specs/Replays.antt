@@ -24,6 +24,7 @@ use Rattle.clock_words.specs.declared.commands.Report.{Report}
 use Rattle.clock_words.specs.declared.commands.Report.TheVariants as asked
 use Rattle.tick_desk.specs.Shows.{PenShows}
 use Rattle.replay_run.specs.Journals.{journal_of, greatest, moves_in, taken_in, IsJournalOf}
+use Rattle.replay_run.specs.Logs.{tried_by}
 use Rattle.replay_run.specs.Plans.{plan_of, start_step}
 use Rattle.replay_run.specs.declared.plan.Options.{Options}
 use Rattle.replay_run.specs.declared.plan.PlanStep.{PlanStep}
@@ -73,7 +74,7 @@ pub record IsReplayed (options : Options) (freq : ℕ) (all : List Item) (pen : 
   -- a call has to be made again only where a windup stood open or came between, or took the slot of its tick
   pub again : EachKept pen (λ i k. HaveCauses pen.journal (map entry_of k.entries))
   -- it has as many entries as attempts were asked for, each of its kind
-  pub attempts : EachKept pen (λ i k. AreAttempts freq options.back options.reads (map entry_of k.entries))
+  pub attempts : EachKept pen (λ i k. AreAttempts freq (tried_by options) options.reads (map entry_of k.entries))
   -- each entry is current at its opening value, and these never fall
   pub current : EachKept pen (λ i k. AreSince pen.journal k.entries)
   -- the counter that its entries show is not past the plan's greatest count (a difference shows an interval)
@@ -83,11 +84,11 @@ pub record IsReplayed (options : Options) (freq : ℕ) (all : List Item) (pen : 
   -- between resets uninterrupted readings never fall as the counts rise, whoever read them
   pub rise : Rises pen.journal (logs_of pen)
 
--- each reading of the absolute clock or of an interval in a log is off by at most its bound, unless its tick is marked
--- unsynchronised; nothing is said of the other clocks
+-- each reading of the absolute clock, of Utc or of an interval in a log is off by at most its bound, unless its tick is
+-- marked unsynchronised; nothing is said of the other clocks
 abbrev pub AreTrueReadings : World → List Hands → List Entry → Type 0
 AreTrueReadings w ticks es = (n : ℕ) (r : Reading) (h : Hands) → slice_get es n ≡ Some (entry.Read r) → slice_get ticks r.tick ≡ Some h
-    → h.kstatus.unsync ≡ false → IsCovered w r.kind r.count (number_of r.time) r.bound
+    → h.kstatus.unsync ≡ false → IsCovered w h.est r.kind r.count (number_of r.time) r.bound
 
 -- what a replay of these items tells is true: the estimates at their stamps, the ticks, and such readings of each log
 pub record IsTrueReplay (w : World) (freq : ℕ) (all : List Item) (pen : PenShows) : Type 0 where
@@ -101,11 +102,11 @@ TellsTrue w asked.Stamps freq all pen = ⊤
 TellsTrue w asked.Rtt freq all pen = ⊤
 TellsTrue w asked.Estimate freq all pen = All (IsTrueEstimate w) (fulls_of (events_of freq all))
 TellsTrue w (asked.Ticks ticks) freq all pen = AreTrueTicks w (journal_of (steps_by freq ticks all))
-TellsTrue w (asked.Replay ticks readers reads back crank) freq all pen = IsTrueReplay w freq all pen
+TellsTrue w (asked.Replay ticks readers reads back crank utc) freq all pen = IsTrueReplay w freq all pen
 
 -- how a run over made stamps is replayed
 abbrev pub run_options : Options
-run_options = record { ticks = 4; readers = 4; reads = 1000; back = false; crank = false }
+run_options = record { ticks = 4; readers = 4; reads = 1000; back = false; crank = false; utc = false }
 
 -- its stamps, and its items, which are these alone
 abbrev pub run_stamps : Asked → List Stamp

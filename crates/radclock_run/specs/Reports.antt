@@ -125,7 +125,7 @@ log_lines reader (es ∷ logs) = entry_lines reader 0 es ++ log_lines (reader + 
 
 -- the head of a report on a replay
 abbrev pub replay_head : Head → Options → ReportHead
-replay_head h o = head.Replay h.freq o.ticks o.readers o.reads o.back o.crank h.version
+replay_head h o = head.Replay h.freq o.ticks o.readers o.reads o.back o.crank o.utc h.version
 
 -- what its end counts: the stamps and refused items, the ticks, and the entries of all logs
 abbrev pub replay_counts : List Outcome → List Hands → List (List Entry) → EndCounts
@@ -145,6 +145,6 @@ report_of asked.Stamps h items pen = stamps_report h (outcomes h.freq [] items) 
 report_of asked.Rtt h items pen = rtt_report h (outcomes h.freq [] items) (bases_of h.freq (stamps_of (accepted_among h.freq [] items)))
 report_of asked.Estimate h items pen = estimate_report h (outcomes h.freq [] items) (fulls_of (events_of h.freq (accepted_among h.freq [] items)))
 report_of (asked.Ticks ticks) h items pen = ticks_report h ticks (outcomes h.freq [] items) (played_by h.freq ticks items)
-report_of (asked.Replay ticks readers reads back crank) h items pen =
-    replay_report h (record { ticks = ticks; readers = readers; reads = reads; back = back; crank = crank }) (outcomes h.freq [] items)
+report_of (asked.Replay ticks readers reads back crank utc) h items pen =
+    replay_report h (record { ticks = ticks; readers = readers; reads = reads; back = back; crank = crank; utc = utc }) (outcomes h.freq [] items)
     (fulls_of (events_of h.freq (accepted_among h.freq [] items))) pen.journal (logs_of pen)

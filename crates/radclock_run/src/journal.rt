@@ -46,6 +46,7 @@ fn clock_for(alloc: Global, freq: u64, events: &[Event], ticks: u32) -> Result<C
         reads: 0,
         back: false,
         crank: false,
+        utc: false,
     };
     let plan = Plan::of(alloc, freq, events, &options)?;
     let mut core = Core::new(alloc)?;

@@ -52,6 +52,7 @@ const OPTIONS: Options = Options {
     reads: 1000,
     back: false,
     crank: false,
+    utc: false,
 };
 
 /// The version of a file of made stamps.

@@ -114,6 +114,7 @@ fn tell<K: Sink, L: Ledger>(
         reads: options.reads,
         back: options.back,
         crank: options.crank,
+        utc: options.utc,
         version: file.head.version,
     };
     let entries = u64::from(options.readers) * u64::from(options.reads);

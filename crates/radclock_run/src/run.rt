@@ -133,6 +133,7 @@ fn finish<R: Threads + Sync, K: Sink, G: Gate, L: Ledger>(
             reads,
             back,
             crank,
+            utc,
         } => {
             let options = Options {
                 ticks,
@@ -140,6 +141,7 @@ fn finish<R: Threads + Sync, K: Sink, G: Gate, L: Ledger>(
                 reads,
                 back,
                 crank,
+                utc,
             };
             replay(rt, alloc, sink, &options, file, steps, desk, gate)
         }

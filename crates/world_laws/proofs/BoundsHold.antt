@@ -1,5 +1,5 @@
 -- The bounds of the absolute clock cover the truth.
-use Rattle.std.proofs.Common.{◌≡◌, ℕ, zero, suc, ◌+◌, ◌-◌, ◌*◌, ◌<◌, ◌≤◌, Bool, true, false, cond, min, pos, ◌-ℤ◌, unsigned_abs, List, length, get_or, slice_get, Some, sym, ap, subst, ◌∙◌, arith}
+use Rattle.std.proofs.Common.{◌≡◌, ℕ, zero, suc, ◌+◌, ◌-◌, ◌*◌, ◌<◌, ◌≤◌, ◌^◌, Bool, true, false, cond, min, pos, ◌+ℤ◌, ◌-ℤ◌, ◌*ℤ◌, unsigned_abs, List, length, get_or, slice_get, Some, sym, ap, subst, ◌∙◌, arith}
 use Rattle.std.specs.Int.{div_ceil}
 use Rattle.std.specs.List.{All, Contains}
 use Rattle.std.proofs.Math.Nat.{mul-le-mul_left}
@@ -32,8 +32,9 @@ use Rattle.ff_estimator.proofs.RateErrors.{period-positive}
 use Rattle.ff_estimator.specs.Folds.{fold_of, estimates_of}
 use Rattle.ff_estimator.proofs.Folds.{length-fold_of, get_or-fold_of, fold-all}
 use Rattle.ff_estimator.proofs.Sane.{rate-over}
-use Rattle.clock_lines.specs.Values.{time_bound, rate_bound, value_of, bound_of}
+use Rattle.clock_lines.specs.Values.{leaps_at, time_bound, rate_bound, value_of, bound_of}
 use Rattle.clock_lines.specs.declared.readings.Kind.TheVariants as kind
+use Rattle.clock_lines.proofs.Spoken.{utc-is}
 use Rattle.world_times.specs.declared.world.World.{World}
 use Rattle.world_times.specs.Worlds.{IsFit, LiesIn, distance}
 use Rattle.world_laws.specs.Journals.{leapless, GoesBy}
@@ -201,13 +202,16 @@ ticks-true freq w all ticks low high fit are lie is by n h here sync = by_kind
         subst (λ (e : Estimate). e.status.unsync ≡ false → e.update_ffcount ≤ count → distance w (time_of e count) count ≤ time_bound e count) (sym tells.is)
         (estimate-covers freq w all tells.index count low high fit are lie tells.here) tells.sync (omega (arith, tells.update))
 
-    by_kind : IsTrueTick w h
-    by_kind kind.Abs count late =
+    absolute : (count : ℕ) → h.count ≤ count → distance w (number_of (value_of h kind.Abs count)) count ≤ time_bound h.est count
+    absolute count late =
         let moved : (count - h.est.update_ffcount) * h.est.period ≡ (h.count - h.est.update_ffcount + (count - h.count)) * h.est.period = ap
         (λ n. n * h.est.period) (omega (arith, tells.update)) in
         let time : number_of (value_of h kind.Abs count) ≡ time_of h.est count = number_of-of_grains (moved_time h count)
         ∙ omega (arith, ints, tells.time, moved) in
         rw time (covers count late)
+
+    by_kind : IsTrueTick w h
+    by_kind kind.Abs count late = absolute count late
     by_kind kind.Fast count at = subst (λ n. distance w (number_of h.time) n ≤ time_bound h.est n) at (rw tells.time (covers h.count (omega arith)))
     by_kind kind.Diff counts any =
         rw (number_of-of_grains (pos (counts * h.est.period)))
@@ -216,4 +220,7 @@ ticks-true freq w all ticks low high fit are lie is by n h here sync = by_kind
     by_kind kind.Mono count late = tt
     by_kind kind.Uptime count late = tt
     by_kind kind.Back count late = tt
-    by_kind kind.Utc count late = tt
+    by_kind kind.Utc count late =
+        let back : number_of (value_of h kind.Utc count) +ℤ leaps_at h.est count *ℤ pos (2 ^ 64) ≡ number_of
+        (value_of h kind.Abs count) = (let is = utc-is h count in omega (arith, ints)) in
+        rw back (absolute count late)

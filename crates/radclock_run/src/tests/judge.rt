@@ -21,8 +21,8 @@ struct Step {
     plain: bool,
 }
 
-// The step of a tick. The first two ticks are the cold one and the reset; then comes each estimate, with
-// plain ticks up to the next.
+// The step of a tick. The first two ticks are the cold one and the reset; then comes each estimate and each
+// set, with plain ticks up to the next.
 fn step_of(report: &Report, n: u64) -> Option<Step> {
     let Some(k) = n.checked_sub(2) else {
         return Some(Step {
@@ -33,14 +33,14 @@ fn step_of(report: &Report, n: u64) -> Option<Step> {
     let turn = report.asked.ticks.checked_add(1)?;
     let i = k.checked_div(turn)? as usize;
     let m = k.checked_rem(turn)?;
-    let from = *report.estimates.get(i)?;
+    let from = *report.events.get(i)?;
     if m == 0 {
         return Some(Step {
             to: from,
             plain: false,
         });
     }
-    let all = report.estimates.get(i.checked_add(1)?)?.checked_sub(from)?;
+    let all = report.events.get(i.checked_add(1)?)?.checked_sub(from)?;
     let part = m.checked_mul(all)?.checked_div(turn)?;
     Some(Step {
         to: from.checked_add(part)?,
@@ -48,9 +48,9 @@ fn step_of(report: &Report, n: u64) -> Option<Step> {
     })
 }
 
-// The count of the last estimate, which no tick and no reading is past.
+// The count of the last event, which no tick and no reading is past.
 fn greatest(report: &Report) -> u64 {
-    report.estimates.last().copied().unwrap_or(0)
+    report.events.last().copied().unwrap_or(0)
 }
 
 // Beside a crank a tick may come late.
@@ -69,7 +69,7 @@ fn are_ticks(report: &Report) -> bool {
             return false;
         }
     }
-    // Behind the last estimate there is no step.
+    // Behind the last event there is no step.
     report.ticks.len() >= 2 && step_of(report, report.ticks.len() as u64).is_none()
 }
 
@@ -82,7 +82,13 @@ fn time_by(tick: &Tick, kind: Kind, count: u64) -> i128 {
     let since = count.wrapping_sub(tick.count);
     let line = tick.lerp.wrapping_add(times(since, tick.slope));
     match kind {
-        Kind::Abs | Kind::Utc => tick.time.wrapping_add(times(since, tick.period)),
+        Kind::Abs => tick.time.wrapping_add(times(since, tick.period)),
+        Kind::Utc => {
+            let due = if tick.next < count { tick.due } else { 0 };
+            let leaps = i128::from(tick.leaps.wrapping_add(due));
+            let abs = tick.time.wrapping_add(times(since, tick.period));
+            abs.wrapping_sub(leaps.wrapping_mul(1 << 64))
+        }
         Kind::Mono | Kind::Back => line,
         Kind::Uptime => line.wrapping_sub(tick.boot),
         Kind::Fast => tick.time,
@@ -136,11 +142,10 @@ pub fn is_true_attempt(attempt: &Attempt) -> bool {
 fn is_place(asked: &Asked, kind: Kind, tick: &Tick, next: Option<&Tick>, count: u64) -> bool {
     let before_next = next.is_none_or(|t| count <= t.count);
     match kind {
-        Kind::Abs | Kind::Mono | Kind::Uptime => tick.count <= count && before_next,
+        Kind::Abs | Kind::Mono | Kind::Uptime | Kind::Utc => tick.count <= count && before_next,
         Kind::Fast => count == tick.count,
         Kind::Diff => count == asked.freq,
         Kind::Back => (tick.count < count || tick.number == 0) && before_next,
-        Kind::Utc => false,
     }
 }
 
@@ -164,10 +169,9 @@ fn is_overtaken(newest: u64, first: u64, last: u64) -> bool {
 
 fn is_again(newest: u64, kind: Kind, first: u64, last: u64) -> bool {
     match kind {
-        Kind::Abs | Kind::Mono | Kind::Uptime => is_crossed(newest, first, last),
+        Kind::Abs | Kind::Mono | Kind::Uptime | Kind::Utc => is_crossed(newest, first, last),
         Kind::Fast | Kind::Diff => is_overtaken(newest, first, last),
         Kind::Back => is_crossed(newest, first, last) || is_overtaken(newest, first, last),
-        Kind::Utc => false,
     }
 }
 
@@ -255,24 +259,26 @@ fn after_answer(report: &Report, before: Before, came: &Came) -> Option<Before> 
     }
 }
 
-const KINDS: [Kind; 6] = [
-    Kind::Abs,
-    Kind::Mono,
-    Kind::Uptime,
-    Kind::Fast,
-    Kind::Diff,
-    Kind::Back,
-];
+// The kind of an attempt, by its place in a turn.
+fn kind_in_turn(asked: &Asked, place: u64) -> Kind {
+    match place {
+        0 => Kind::Abs,
+        1 => Kind::Mono,
+        2 => Kind::Uptime,
+        3 => Kind::Fast,
+        4 => Kind::Diff,
+        _ if place == 5 && asked.back => Kind::Back,
+        _ => Kind::Utc,
+    }
+}
 
 // Whether an attempt is the one that comes behind so many of all readers, of the kind that is its turn.
 fn is_next(asked: &Asked, i: u64, attempt: &Attempt) -> bool {
     let reader = i.checked_div(asked.reads);
     let number = i.checked_rem(asked.reads).unwrap_or(0);
-    let turn = if asked.back { 6 } else { 5 };
-    let kind = KINDS.get((number % turn) as usize);
-    reader == Some(attempt.reader)
-        && attempt.number == number
-        && kind == Some(&kind_of(&attempt.came))
+    let turn = 5 + u64::from(asked.back) + u64::from(asked.utc);
+    let kind = kind_in_turn(asked, number % turn);
+    reader == Some(attempt.reader) && attempt.number == number && kind == kind_of(&attempt.came)
 }
 
 /// The first attempt that may not stand where it does.

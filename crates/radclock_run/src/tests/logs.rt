@@ -12,6 +12,7 @@ pub struct Asked {
     pub reads: u64,
     pub back: bool,
     pub crank: bool,
+    pub utc: bool,
 }
 
 /// A tick, as far as readers go by it. Times are in grains of 2^-64 s.
@@ -29,6 +30,10 @@ pub struct Tick {
     pub period: u64,
     pub abs: u64,
     pub rate: u64,
+    /// The count of the due leap second, the leap seconds so far, and the due one.
+    pub next: u64,
+    pub leaps: i64,
+    pub due: i64,
 }
 
 /// What came of an attempt. Times and bounds are in grains of 2^-64 s.
@@ -64,12 +69,12 @@ pub struct Attempt {
     pub came: Came,
 }
 
-/// What the lines of a report say, but for refused and last ones.
+/// What the lines of a report say, but for leap seconds, refused items and the end.
 #[derive(Drop)]
 pub struct Report {
     pub asked: Asked,
-    /// The counts of the estimates.
-    pub estimates: Vec<u64>,
+    /// The counts of the estimates and of the sets.
+    pub events: Vec<u64>,
     pub ticks: Vec<Tick>,
     pub attempts: Vec<Attempt>,
 }
@@ -108,6 +113,16 @@ impl<'t> Columns<'t> {
         self.number()
     }
 
+    // Whether the next column is this flag, which is then taken.
+    fn flag(&mut self, name: &str) -> bool {
+        let mut after = *self;
+        if after.word() != name {
+            return false;
+        }
+        *self = after;
+        true
+    }
+
     // A time, in grains of 2^-64 s.
     fn time(&mut self) -> Option<i128> {
         let (seconds, grains) = self.word().split_once('+')?;
@@ -124,6 +139,7 @@ impl<'t> Columns<'t> {
             "fast" => Some(Kind::Fast),
             "diff" => Some(Kind::Diff),
             "back" => Some(Kind::Back),
+            "utc" => Some(Kind::Utc),
             _ => None,
         }
     }
@@ -164,21 +180,19 @@ fn asked_of(line: &str) -> Option<Asked> {
     let ticks = columns.number_of("ticks")?;
     let readers = columns.number_of("readers")?;
     let reads = columns.number_of("reads")?;
-    let (back, crank) = match columns.rest {
-        "" => (false, false),
-        "back" => (true, false),
-        "crank" => (false, true),
-        "back crank" => (true, true),
-        _ => return None,
-    };
-    Some(Asked {
+    let back = columns.flag("back");
+    let crank = columns.flag("crank");
+    let utc = columns.flag("utc");
+    let asked = Asked {
         freq,
         ticks,
         readers,
         reads,
         back,
         crank,
-    })
+        utc,
+    };
+    matches!(columns.rest, "" | "version 2").then_some(asked)
 }
 
 // The tick of the columns behind the first word of its line.
@@ -194,6 +208,12 @@ fn tick_of(rest: &str) -> Option<Tick> {
     // Marks, and the time of the estimate.
     columns.word();
     columns.word();
+    let update = columns.number()?;
+    let period = columns.number()?;
+    let abs = columns.number()?;
+    let rate = columns.number()?;
+    // Its marks.
+    columns.word();
     Some(Tick {
         number,
         plain,
@@ -202,10 +222,13 @@ fn tick_of(rest: &str) -> Option<Tick> {
         lerp,
         slope,
         boot,
-        update: columns.number()?,
-        period: columns.number()?,
-        abs: columns.number()?,
-        rate: columns.number()?,
+        update,
+        period,
+        abs,
+        rate,
+        next: columns.number()?,
+        leaps: columns.word().parse::<i64>().ok()?,
+        due: columns.word().parse::<i64>().ok()?,
     })
 }
 
@@ -219,15 +242,23 @@ fn attempt_of(line: &str) -> Option<Attempt> {
     })
 }
 
-// Takes the line of an estimate, a tick or an attempt. Whether it is one of these.
+// The count of an estimate or a set.
+fn event_of(line: &str) -> Option<u64> {
+    let mut columns = Columns { rest: line };
+    match columns.word() {
+        "estimate" => {
+            columns.word();
+            columns.number()
+        }
+        "set" => columns.number(),
+        _ => None,
+    }
+}
+
+// Takes the line of an estimate, a set, a tick or an attempt. Whether it is one of these.
 fn take_line(report: &mut Report, line: &str) -> Result<bool, Fail> {
-    if let Some(rest) = line.strip_prefix("estimate ") {
-        let mut columns = Columns { rest };
-        columns.word();
-        let Some(count) = columns.number() else {
-            return Ok(false);
-        };
-        report.estimates.push(count)?;
+    if let Some(count) = event_of(line) {
+        report.events.push(count)?;
         return Ok(true);
     }
     if let Some(rest) = line.strip_prefix("tick ") {
@@ -251,12 +282,13 @@ pub fn report_of(alloc: Global, text: &str, lines: usize) -> Result<Report, Fail
     };
     let mut report = Report {
         asked,
-        estimates: Vec::new(alloc),
+        events: Vec::new(alloc),
         ticks: Vec::new(alloc),
         attempts: Vec::new(alloc),
     };
     for line in text.lines().take(lines).skip(1) {
-        let other = line.starts_with("refused ") || line.starts_with("end ");
+        let names = ["refused ", "leap ", "end "];
+        let other = names.iter().any(|name| line.starts_with(*name));
         if !other && !take_line(&mut report, line)? {
             return Err(Fail::new("a line is none of a replay"));
         }

@@ -2,6 +2,7 @@
 use crate::tests::judge::{Wrong, first_wrong, is_true_attempt, is_true_tick};
 use crate::tests::logs::{Attempt, Came, report_of};
 use crate::tests::rows::{INPUT, REPLAYS};
+use crate::tests::second::SETS;
 use crate::tests::{OUTSIDE, PATIENCE, played, played_past};
 use rad_io::Gate;
 use std::alloc::Global;
@@ -42,6 +43,53 @@ fn replays_are_legal(rt: HostRuntime) -> Result<(), Fail> {
     Ok(())
 }
 
+/// A file of version 2 whose leap second is at a count between its last two estimates.
+const LEAPS: &str = "radclock-stamps 2
+freq 1000000000
+1000000000 1700000000 1700000000 1000100000 1 1
+leap 20000000000 1
+17000000000 1700000016 1700000016 17000100000 1 0
+33000000000 1700000032 1700000032 33000100000 1 0
+";
+
+/// The words of a replay of a file of version 2, that file, and the first and the last line that are written.
+static SECOND: [(&str, &str, &str, &str); 4] = [
+    (
+        "replay --utc --readers 2 --reads 600",
+        SETS,
+        "report replay freq 1000000000 ticks 4 readers 2 reads 600 utc version 2\n",
+        "\nend accepted 2 refused 0 ticks 13 entries 1200\n",
+    ),
+    (
+        "replay --utc --readers 2 --reads 600",
+        LEAPS,
+        "report replay freq 1000000000 ticks 4 readers 2 reads 600 utc version 2\n",
+        "\nend accepted 3 refused 0 ticks 13 entries 1200\n",
+    ),
+    (
+        "replay --crank --utc --back --reads 210",
+        LEAPS,
+        "report replay freq 1000000000 ticks 4 readers 2 reads 210 back crank utc version 2\n",
+        "\nend accepted 3 refused 0 ticks 13 entries 420\n",
+    ),
+    (
+        "replay --reads 30",
+        SETS,
+        "report replay freq 1000000000 ticks 4 readers 2 reads 30 version 2\n",
+        "\nend accepted 2 refused 0 ticks 13 entries 60\n",
+    ),
+];
+
+#[test]
+fn replays_of_version_2_are_legal(rt: HostRuntime) -> Result<(), Fail> {
+    for (words, input, head, end) in &SECOND {
+        let (_, told) = played(&rt, rt.alloc(), words, input, OUTSIDE)?;
+        assert!(rt; told.starts_with(*head), "at {words}");
+        is_legal(&rt, rt.alloc(), words, input, end)?;
+    }
+    Ok(())
+}
+
 /// Command lines for a file of forty stamps, and how often each is run.
 static FORTY: [(&str, u32); 3] = [
     ("replay --ticks 15 --readers 4 --reads 400 --crank", 20),
@@ -73,7 +121,7 @@ fn a_day_is_replayed(rt: HostRuntime) -> Result<(), Fail> {
     assert_eq!(rt; told.lines().count(), 36400);
     assert!(rt; told.ends_with("\nend accepted 5400 refused 0 ticks 26998 entries 4000\n"));
     let report = report_of(rt.alloc(), &told, usize::MAX)?;
-    assert_eq!(rt; report.estimates.len(), 5400);
+    assert_eq!(rt; report.events.len(), 5400);
     assert_eq!(rt; report.ticks.len(), 26998);
     assert_eq!(rt; first_wrong(&report), None);
     assert!(rt; report.ticks.iter().all(is_true_tick));

@@ -391,7 +391,22 @@ end accepted 2 refused 7
 
 /// The words of a replay of two stamps, and the first and the last line that are written. What the readers
 /// read hangs on the order in which the threads come.
-pub static REPLAYS: [(&str, &str, &str); 8] = [
+pub static REPLAYS: [(&str, &str, &str); 11] = [
+    (
+        "replay --utc --readers 2 --reads 600",
+        "report replay freq 1000000000 ticks 4 readers 2 reads 600 utc\n",
+        "\nend accepted 2 refused 0 ticks 8 entries 1200\n",
+    ),
+    (
+        "replay --utc --back --ticks 1 --reads 14",
+        "report replay freq 1000000000 ticks 1 readers 2 reads 14 back utc\n",
+        "\nend accepted 2 refused 0 ticks 5 entries 28\n",
+    ),
+    (
+        "replay --ticks 15 --utc --crank --back --reads 350",
+        "report replay freq 1000000000 ticks 15 readers 2 reads 350 back crank utc\n",
+        "\nend accepted 2 refused 0 ticks 19 entries 700\n",
+    ),
     (
         "replay --ticks 1 --readers 1 --reads 6 --back",
         "report replay freq 1000000000 ticks 1 readers 1 reads 6 back\n",
@@ -459,7 +474,7 @@ pub static LONG_LINES: [(&str, &str, usize, &str, &str); 14] = [
 ];
 
 /// Words that are no line of the command.
-pub static OTHER_WORDS: [&str; 93] = [
+pub static OTHER_WORDS: [&str; 98] = [
     "",
     "-- stamps",
     "stamps extra",
@@ -539,6 +554,11 @@ pub static OTHER_WORDS: [&str; 93] = [
     "replay --crank --crank",
     "replay --back --crank --back",
     "replay --backcrank",
+    "replay --utc=",
+    "replay --utc 1",
+    "replay --utc --utc",
+    "replay --UTC",
+    "ticks --utc",
     "replay --readers --back",
     "make",
     "make 7 0",

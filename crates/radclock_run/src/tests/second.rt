@@ -6,7 +6,7 @@ use std::test::Fail;
 const SECOND_HEAD: &str = "radclock-stamps 2\nfreq 1000000000\n";
 
 /// A file of version 2: a leap second that is announced and taken, and a set.
-const SETS: &str = "radclock-stamps 2
+pub const SETS: &str = "radclock-stamps 2
 freq 1000000000
 1000000000 1700000000 1700000000 1000100000 1 1
 leap 20000000000 1
