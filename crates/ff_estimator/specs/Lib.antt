@@ -9,3 +9,4 @@ pub mod Events
 pub mod Daemons
 pub mod Runs
 pub mod Weighings
+pub mod Samples

@@ -10,5 +10,7 @@ mod tests;
 mod window;
 
 pub use bases::Base;
-pub use laws::{bases_stay, firsts_are_least, pairs_are_of_the_list};
+pub use laws::{
+    bases_stay, firsts_are_least, pairs_are_of_the_list, quarters_are_worked, shifts_are_worked,
+};
 pub use window::Window;

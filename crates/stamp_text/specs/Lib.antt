@@ -11,3 +11,4 @@ pub mod Kept
 pub mod FeedSteps
 pub mod Turns
 pub mod Pieces
+pub mod Samples

@@ -1,17 +1,20 @@
 // What follows for the accepted stamps of lines.
-ghost use Rattle.std.specs.Prelude.{◌≡◌, ℕ, true, false, codes, Some, Ok, map, List, [], ◌∷◌, ◌++◌};
+ghost use Rattle.std.specs.Prelude.{◌≡◌, ◌-◌, ◌^◌, ℕ, pos, negsuc, true, false, codes, Some, None, Ok, Err, map, List, [], ◌∷◌, ◌++◌};
 ghost use Rattle.std.specs.List.{All};
 ghost use Rattle.stamp_text.specs.Accepted.{IsInRange, IsItemInRange, AreAccepted, accept_of, accepted_all, accepted_of_lines, accepted_with, last_of};
 ghost use Rattle.stamp_text.specs.Cut.{file_lines};
-ghost use Rattle.stamp_text.specs.Grammar.{second_of, given_of_file};
+ghost use Rattle.stamp_text.specs.Grammar.{second_of, freq_says, given_of_file, short_says};
 ghost use Rattle.stamp_text.specs.Items.{item_in};
-ghost use Rattle.stamp_text.specs.Past.{AreAcceptedItems, accept_item, accepted_items, accepted_of, is_unsynchronised, item_of_line};
+ghost use Rattle.stamp_text.specs.Past.{AreAcceptedItems, Seen, accept_item, accepted_items, accepted_of, is_unsynchronised, item_of_line, nothing_seen, test_of};
+ghost use Rattle.stamp_text.specs.Samples.{at, exchange, exchanged, said};
 ghost use Rattle.stamp_text.specs.declared.lines.Head.{Head};
 ghost use Rattle.stamp_text.specs.declared.lines.Item.{Item};
 ghost use Rattle.stamp_text.specs.declared.lines.Item.TheVariants as item;
 ghost use Rattle.stamp_text.specs.declared.lines.Line.{Line};
 ghost use Rattle.stamp_text.specs.declared.lines.Line.TheVariants as gives;
+ghost use Rattle.stamp_text.specs.declared.accepts.Refused.TheVariants as refused;
 ghost use Rattle.stamp_text.specs.declared.lines.Stamp.{Stamp};
+ghost use Rattle.stamp_text.specs.declared.lines.Why.TheVariants as why;
 
 /// The law of one more line: a stamp is tested against the last accepted one before it, and a head
 /// adds nothing.
@@ -74,4 +77,44 @@ pub fn version_1_is_a_special_case()
     ensures accepted { (freq : ℕ) (text : List ℕ) → second_of (file_lines text) ≡ false →
         accepted_of freq (given_of_file text) ≡
         map item.Stamp (accepted_of_lines freq (given_of_file text)) }
+{}
+
+/// The law of worked lines: what heads say, and item lines at the ends of their ranges and past them.
+#[tactic(auto, unfolding(crate::specs::Items::item_in, crate::specs::Stamps::stamp_in))]
+pub fn lines_are_worked()
+    ensures first { freq_says false (codes "freq 1000000") ≡ Ok (Some (gives.Head (record { version = 1; freq = 1000000 }))) }
+    ensures second { freq_says true (codes "freq 16000000000") ≡ Ok (Some (gives.Head (record { version = 2; freq = 16000000000 }))) }
+    ensures slow { freq_says true (codes "freq 999999") ≡ Err why.Freq }
+    ensures fast { freq_says true (codes "freq 16000000001") ≡ Err why.Freq }
+    ensures stamp { item_in true (codes "7 8.5 9 10 255 3") ≡ Ok (item.Stamp (record (exchange 7 10) { tb = record { sec = pos 8; frac = 9223372036854775808 }; te = at 9; stratum = 255; leap = 3 })) }
+    ensures stratum { item_in true (codes "7 8.5 9 10 256 3") ≡ Err why.Range }
+    ensures leap { item_in true (codes "7 8.5 9 10 255 4") ≡ Err why.Range }
+    ensures last { item_in true (codes "leap 4611686018427387903 1") ≡ Ok (item.Leap 4611686018427387903 (pos 1)) }
+    ensures past { item_in true (codes "leap 4611686018427387904 1") ≡ Err why.Range }
+    ensures left_out { item_in true (codes "leap 5 -1") ≡ Ok (item.Leap 5 (negsuc 0)) }
+    ensures set { item_in true (codes "set 5 4294967295") ≡ Ok (item.Set 5 (at 4294967295)) }
+    ensures set_past { item_in true (codes "set 5 4294967296") ≡ Err why.Range }
+{}
+
+/// The law of worked tests, each of which holds by one count, one grain or one second.
+#[tactic(auto, unfolding(crate::specs::Past::test_of))]
+pub fn tests_are_worked()
+    ensures first { test_of 1000000 nothing_seen (item.Stamp (exchange 7 1000007)) ≡ Ok tt }
+    ensures long_trip { test_of 1000000 nothing_seen (item.Stamp (exchange 7 1000008)) ≡ Err refused.LongTrip }
+    ensures backward { test_of 1000000 nothing_seen (item.Stamp (exchange 7 7)) ≡ Err refused.Backward }
+    ensures next { test_of 1000000 (exchanged 10) (item.Stamp (exchange 11 12)) ≡ Ok tt }
+    ensures overlap { test_of 1000000 (exchanged 10) (item.Stamp (exchange 10 12)) ≡ Err refused.Overlap }
+    ensures behind_set { test_of 1000000 (record nothing_seen { set = Some 10 }) (item.Stamp (exchange 11 12)) ≡ Ok tt }
+    ensures before_set { test_of 1000000 (record nothing_seen { set = Some 10 }) (item.Stamp (exchange 10 12)) ≡ Err refused.BeforeSet }
+    ensures alarm { test_of 1000000 nothing_seen (item.Stamp (said 15 3)) ≡ Err refused.Unsynchronised }
+    ensures far { test_of 1000000 nothing_seen (item.Stamp (said 15 2)) ≡ Ok tt }
+    ensures farther { test_of 1000000 nothing_seen (item.Stamp (said 16 2)) ≡ Err refused.Unsynchronised }
+    ensures no_stratum { test_of 1000000 nothing_seen (item.Stamp (said 0 2)) ≡ Err refused.Unsynchronised }
+    ensures set { test_of 1000000 (exchanged 10) (item.Set 11 (at 0)) ≡ Ok tt }
+    ensures set_old { test_of 1000000 (exchanged 10) (item.Set 10 (at 0)) ≡ Err refused.SetOld }
+    ensures put_in { test_of 1000000 (record (exchanged 10) { leap = Some 9; leaps = 99 }) (item.Leap 11 (pos 1)) ≡ Ok tt }
+    ensures left_out { test_of 1000000 (exchanged 10) (item.Leap 11 (negsuc 0)) ≡ Err refused.LeapUnannounced }
+    ensures leap_old { test_of 1000000 (exchanged 10) (item.Leap 10 (pos 1)) ≡ Err refused.LeapOld }
+    ensures pending { test_of 1000000 (record (exchanged 10) { leap = Some 10 }) (item.Leap 11 (pos 1)) ≡ Err refused.LeapPending }
+    ensures limit { test_of 1000000 (record (exchanged 10) { leaps = 100 }) (item.Leap 11 (pos 1)) ≡ Err refused.LeapLimit }
 {}

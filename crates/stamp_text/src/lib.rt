@@ -18,7 +18,8 @@ pub use accepts::{Refused, accept};
 pub use feed::Feed;
 pub use laws::{
     accepted_items_follow, accepted_items_grow, accepted_stamps_follow, accepted_stamps_go_on,
-    accepted_stamps_grow, stamps_alone_are_items, version_1_is_a_special_case,
+    accepted_stamps_grow, lines_are_worked, stamps_alone_are_items, tests_are_worked,
+    version_1_is_a_special_case,
 };
 pub use lines::{Head, Item, Line, LineFault, Stamp, Why};
 pub use numbers::number_of;
