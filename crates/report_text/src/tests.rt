@@ -1,7 +1,6 @@
 // Lines of a run, and those over stamp files of both versions.
 use crate::{
-    LineText, ReportHead, Summary, head_line, ideal_line, leap_line, set_line, stamp_line,
-    summary_line,
+    ReportHead, Summary, head_line, ideal_line, leap_line, set_line, stamp_line, summary_line,
 };
 use ff_grain::from_nanos;
 use rad_io::MemSink;
@@ -69,7 +68,6 @@ fn lines_of_both_versions(rt: HostRuntime) -> Result<(), Fail> {
         leap: 2,
     };
     let mut sink = MemSink::new(rt.alloc(), 640, Vec::new(rt.alloc()))?;
-    let mut line = LineText::new();
     for version in 1..3 {
         let head = ReportHead::Ticks {
             freq: 1_000_000,
@@ -77,16 +75,10 @@ fn lines_of_both_versions(rt: HostRuntime) -> Result<(), Fail> {
             version,
         };
         assert_eq!(rt; head_line(&mut sink, &head), Ok(()));
-        assert_eq!(rt;
-            stamp_line(&mut sink, &mut line, 7, &stamp, version),
-            Ok(())
-        );
+        assert_eq!(rt; stamp_line(&mut sink, 7, &stamp, version), Ok(()));
     }
-    assert_eq!(rt;
-        set_line(&mut sink, &mut line, 20, from_nanos(8, 0)),
-        Ok(())
-    );
-    assert_eq!(rt; leap_line(&mut sink, &mut line, 21, -1), Ok(()));
+    assert_eq!(rt; set_line(&mut sink, 20, from_nanos(8, 0)), Ok(()));
+    assert_eq!(rt; leap_line(&mut sink, 21, -1), Ok(()));
     assert_eq!(rt;
         sink.written(),
         b"report ticks freq 1000000 ticks 4
