@@ -26,6 +26,20 @@ def uptime(tick, count):
     return uninterrupted(tick, count) - tick.boot
 
 
+def leaps(tick, count):
+    """The leap seconds that hold at a count: a due one only behind its own count."""
+    return tick.total + (tick.leap if tick.due < count else 0)
+
+
+def utc(tick, count):
+    return absolute(tick, count) - leaps(tick, count) * GRAINS
+
+
+def is_inserted(tick, count):
+    """Whether UTC reads a second anew: behind the count of an inserted one, until it is where it was at that count."""
+    return tick.leap == 1 and tick.due < count and absolute(tick, count) < absolute(tick, tick.due) + GRAINS
+
+
 def rate_bound(tick, counts):
     return div_ceil(counts * tick.period * tick.rate_error, 10**12)
 
@@ -77,6 +91,14 @@ def date(nanos):
         return f"{seconds} s and {rest} ns since 1970"
     day = EPOCH + timedelta(seconds=seconds)
     return f"{day:%Y-%m-%d %H:%M:%S}.{rest:09d} UTC".rjust(33, "0")
+
+
+def utc_date(tick, count):
+    """The date of UTC at a count. The inserted second is the sixtieth of its minute, where it ends one."""
+    day = date(nanos_floor(utc(tick, count)))
+    if not is_inserted(tick, count):
+        return day
+    return day.replace(":59.", ":60.") if ":59." in day else f"{day} once more"
 
 
 def decimal(value, digits):

@@ -21,6 +21,7 @@ def tick_lines(tick, count):
         yield "latest", "not bounded"
     yield "bound", f"{clock.nanos_ceil(bound)} ns = {bound} grains"
     yield "uninterrupted", time_text(lerp, clock.nanos_floor(lerp))
+    yield "utc", f"{clock.utc_date(tick, count)} = {clock.exact(clock.utc(tick, count))}"
     seconds, nanos = divmod(clock.nanos_floor(up), clock.NANOS)
     yield "uptime", f"{seconds}.{nanos:09d} s = {clock.exact(up)}"
     yield "marks", f"clock {tick.clock_marks} estimate {tick.marks}"

@@ -17,7 +17,7 @@ except ImportError:
 BLUE, ORANGE, RED, GREEN = "#2166ac", "#e08214", "#b2182b", "#1b7837"
 BAND = "#d1e5f0"
 MANY = 10_000  # points
-MARKERS = {"abs": ".", "mono": "+", "uptime": "1", "fast": "x", "back": "2"}
+MARKERS = {"abs": ".", "mono": "+", "uptime": "1", "fast": "x", "back": "2", "utc": "3"}
 STYLE = {"svg.fonttype": "none", "svg.hashsalt": "look", "font.family": "DejaVu Sans", "font.size": 9,
          "axes.spines.top": False, "axes.spines.right": False, "axes.grid": True, "grid.color": "#e6e6e6",
          "legend.frameon": False, "legend.fontsize": 8, "axes.titlesize": 10, "axes.titlelocation": "left"}
@@ -127,12 +127,16 @@ def readings_of(report, *kinds):
     return [(r, tick) for r, tick in found if clock.is_bounded(tick) and (r.kind != "diff" or r.count > 0)]
 
 
+def taken_off(kind, tick, count):
+    """What a kind is less than the clock that it is told from."""
+    return {"uptime": tick.boot, "utc": clock.leaps(tick, count) * GRAINS}.get(kind, 0)
+
+
 def draw_readings(axes, report, origin):
-    """How far readings are from the absolute clock. The uptime is drawn as what it is told from."""
+    """How far readings are from the absolute clock. The uptime and UTC are drawn as what they are told from."""
     for kind, marker in MARKERS.items():
         found = readings_of(report, kind)
-        boots = [tick.boot if kind == "uptime" else 0 for _, tick in found]
-        off = [micros(r.time + boot - clock.absolute(tick, r.count)) for (r, tick), boot in zip(found, boots)]
+        off = [micros(r.time + taken_off(kind, tick, r.count) - clock.absolute(tick, r.count)) for r, tick in found]
         seconds = [(r.count - origin) / report.frequency for r, _ in found]
         if found:
             axes.plot(seconds, off, marker, ms=5, label=kind)

@@ -29,7 +29,7 @@ Reading = namedtuple("Reading", "reader attempt kind tick count time bound")
 Again = namedtuple("Again", "reader attempt kind first last")
 Miss = namedtuple("Miss", "reader attempt count met")
 
-KINDS = ("abs", "mono", "uptime", "fast", "diff", "back")
+KINDS = ("abs", "mono", "uptime", "fast", "diff", "back", "utc")
 HOWS = ("cold", "plain", "take", "jump", "reset")
 TESTS = ("backward", "server-backward", "overlap", "server-old", "long-trip", "acausal", "unsynchronised", "before-set",
          "set-old", "leap-old", "leap-pending", "leap-unannounced", "leap-limit")
@@ -102,7 +102,7 @@ SECOND = ("set", "leap")
 TOLD_LEAPS = (number, signed, signed)  # what an estimate of version 2 tells of leap seconds
 
 HEAD = re.compile(f"report (?:(rtt|estimate) freq ({NUMBER})|(ticks) freq ({NUMBER}) ticks {NUMBER}"
-                  f"|(replay) freq ({NUMBER}) ticks {NUMBER} readers {NUMBER} reads {NUMBER}(?: back)?(?: crank)?)( version 2)?")
+                  f"|(replay) freq ({NUMBER}) ticks {NUMBER} readers {NUMBER} reads {NUMBER}(?: back)?(?: crank)?(?: utc)?)( version 2)?")
 
 
 class Report:

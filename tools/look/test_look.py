@@ -14,7 +14,7 @@ from fractions import Fraction
 
 import cli
 import clock
-from report import Wrong, read_report
+from report import Tick, Wrong, read_report
 
 HERE = os.path.dirname(os.path.abspath(__file__))
 DATA = os.path.join(HERE, "testdata")
@@ -59,6 +59,9 @@ def hand_value(line, kind, count):
         return grains(w[4]) + passed * int(w[11])
     if kind == "diff":
         return count * int(w[11])
+    if kind == "utc":
+        leaps = int(w[16]) + (int(w[17]) if int(w[15]) < count else 0)
+        return grains(w[4]) + passed * int(w[11]) - leaps * GRAINS
     lerp = grains(w[5]) + passed * int(w[6])
     return lerp - grains(w[7]) if kind == "uptime" else lerp
 
@@ -86,7 +89,7 @@ def hand_entries(lines, last):
         begin = int(line.split(" ")[3])
         end = int(lines[n + 1].split(" ")[3]) if n + 1 < len(lines) else last
         for count in sorted({begin, (2 * begin + end) // 3, end}):
-            entries += [(kind, n, count) for kind in ("abs", "mono", "uptime")]
+            entries += [(kind, n, count) for kind in ("abs", "mono", "uptime", "utc")]
             entries.append(("back", hand_tick(lines, count), count))
         entries += [("fast", n, begin), ("diff", n, 1 + 7 * n)]
     return [f"{kind} {n} {count} {text_of(hand_value(lines[n], kind, count))} {hand_bound(lines[n], kind, count)}"
@@ -101,7 +104,7 @@ def hand_replay(past_the_end):
     k = len(read)
     missed = [f"again 0 {k} mono 3 5", f"again 0 {k + 1} back 6 8", f"old 0 {k + 2} 5 900", f"ahead 0 {k + 3} {last + 9} {last}"]
     entries = read + missed
-    flags = " back crank" if past_the_end else " back"
+    flags = " back crank utc" if past_the_end else " back utc"
     made = [head.replace("ticks freq", "replay freq") + f" readers 1 reads {len(entries)}{flags}"]
     made += data("estimate.txt").splitlines()[1:-1] + lines + entries + [f"{end} entries {len(entries)}"]
     return "\n".join(made) + "\n"
@@ -121,7 +124,8 @@ def blocks_of(out):
 
 
 class Replay(unittest.TestCase):
-    NAMES = {"abs": "absolute", "fast": "absolute", "mono": "uninterrupted", "back": "uninterrupted", "uptime": "uptime"}
+    NAMES = {"abs": "absolute", "fast": "absolute", "mono": "uninterrupted", "back": "uninterrupted", "uptime": "uptime",
+             "utc": "utc"}
 
     def every_reading(self, text, least):
         readings = [r for r in read_report(text).readings if r.kind != "diff"]
@@ -170,7 +174,7 @@ class Replay(unittest.TestCase):
     def test_summary_counts_all(self):
         out = look(["summary"], hand_replay(0))[1]
         self.assertIn("Ticks         : cold 1, plain 46, take 23, jump 1, reset 1\n", out)
-        self.assertRegex(out, r"Reads +: abs (\d+), mono \1, uptime \1, fast 72, diff 72, back \1\n")
+        self.assertRegex(out, r"Reads +: abs (\d+), mono \1, uptime \1, fast 72, diff 72, back \1, utc \1\n")
         self.assertIn("Again         : mono 1, back 1\n", out)
         self.assertIn("Too old       : 1\nAhead         : 1\n", out)
 
@@ -203,6 +207,24 @@ class At(unittest.TestCase):
         self.assertEqual(clock.date(2**32 * 10**9), "2106-02-07 06:28:16.000000000 UTC")
         self.assertEqual(clock.date(2**45 * 10**9 + 7), "35184372088832 s and 7 ns since 1970")
         self.assertEqual(clock.decimal(Fraction(-1, 3), 3), "-0.333")
+
+    def leaping(self, day, leap):
+        """UTC around a leap second at 2^20 Hz and a count of 2^21, the second after this day's time by a clock 37 s ahead."""
+        time = (day - datetime(1970, 1, 1)).total_seconds() + 36
+        tick = Tick(2, "take", 0, int(time) * GRAINS, 0, 0, 0, "-", 0, 0, GRAINS >> 20, 0, 0, "-", 2 << 20, 37, leap)
+        return [clock.utc_date(tick, count)[11:] for count in (2 << 20, (2 << 20) + 1, (3 << 20) - 1, 3 << 20)]
+
+    def test_an_inserted_second_is_the_sixtieth(self):
+        last = datetime(2016, 12, 31, 23, 59, 59)
+        self.assertEqual(self.leaping(last, 1), ["00:00:00.000000000 UTC", "23:59:60.000000953 UTC", "23:59:60.999999046 UTC",
+                                                 "00:00:00.000000000 UTC"])
+        self.assertEqual(self.leaping(last, -1), ["00:00:00.000000000 UTC", "00:00:01.000000953 UTC", "00:00:01.999999046 UTC",
+                                                  "00:00:02.000000000 UTC"])
+        self.assertEqual(self.leaping(last, 0)[1:3], ["00:00:00.000000953 UTC", "00:00:00.999999046 UTC"])
+
+    def test_one_within_a_minute_is_told_once_more(self):
+        self.assertEqual(self.leaping(datetime(2016, 12, 31, 12, 0, 7), 1), ["12:00:08.000000000 UTC", "12:00:07.000000953 UTC once more",
+                                                                             "12:00:07.999999046 UTC once more", "12:00:08.000000000 UTC"])
 
 
 class Summary(unittest.TestCase):
