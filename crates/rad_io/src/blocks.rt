@@ -50,6 +50,7 @@ impl<K: Sink> BlockSink<K> {
     }
 
     // Takes bytes up to a whole block, which is then handed on.
+    #[inline(always)]
     fn take(&mut self, front: &[u8]) -> Result<(), Failed>
         requires sound { self.old.faults ≡ 0 }
         requires fits { length self.old.block + length front.now ≤ 65536 }
@@ -101,6 +102,7 @@ impl<K: Sink> Sink for BlockSink<K> {
 
     ghost cause = { λ old new piece r gives. gives.cause };
 
+    #[inline(always)]
     fn push(&mut self, piece: &[u8]) -> Result<(), Failed> {
         if self.faults > 0 {
             self.faults = self.faults.saturating_add(1);

@@ -6,7 +6,8 @@ ghost use Rattle.radclock_run.specs.Tellings.{rtt_says};
 
 use crate::reports::Telling;
 use rad_io::{Failed, Sink};
-use report_text::base_line;
+use report_text::LineText;
+use report_text::lines::base_line;
 use rtt_window::Window;
 use stamp_text::Stamp;
 use std::sync::ledger::Ledger;
@@ -25,9 +26,15 @@ impl<L: Ledger> Telling for Bases<L> {
 
     ghost says = { rtt_says };
 
-    fn tell<K: Sink>(&mut self, sink: &mut K, index: u64, stamp: &Stamp) -> Result<(), Failed> {
+    fn tell<K: Sink>(
+        &mut self,
+        sink: &mut K,
+        line: &mut LineText,
+        index: u64,
+        stamp: &Stamp,
+    ) -> Result<(), Failed> {
         let base = self.window.add(*stamp, &mut self.steps);
-        base_line(sink, index, stamp.tf - stamp.ta, &base)
+        base_line(sink, line, index, stamp.tf - stamp.ta, &base)
     }
     // Of these the bases say nothing.
     fn set(&mut self, _count: u64) {}

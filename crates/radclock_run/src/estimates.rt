@@ -6,7 +6,8 @@ ghost use Rattle.radclock_run.specs.Tellings.{estimate_says};
 use crate::reports::Telling;
 use ff_estimator::{Daemon, Fed};
 use rad_io::{Failed, Sink};
-use report_text::estimate_line;
+use report_text::LineText;
+use report_text::lines::estimate_line;
 use stamp_text::Stamp;
 use std::sync::ledger::Ledger;
 use step_count::Steps;
@@ -27,9 +28,15 @@ impl<L: Ledger> Telling for Estimates<L> {
     ghost says = { estimate_says };
 
     // The stamp was accepted before, so the daemon does not refuse it.
-    fn tell<K: Sink>(&mut self, sink: &mut K, index: u64, stamp: &Stamp) -> Result<(), Failed> {
+    fn tell<K: Sink>(
+        &mut self,
+        sink: &mut K,
+        line: &mut LineText,
+        index: u64,
+        stamp: &Stamp,
+    ) -> Result<(), Failed> {
         match self.daemon.feed(*stamp, &mut self.steps) {
-            Fed::Estimate(full) => estimate_line(sink, index, &full, self.version),
+            Fed::Estimate(full) => estimate_line(sink, line, index, &full, self.version),
             Fed::Refused(_) => unreachable!(),
         }
     }

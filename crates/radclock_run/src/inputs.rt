@@ -59,6 +59,7 @@ pub fn takes_few(report: Report) -> bool
 
 /// Tests an item of any kind behind the accepted ones. Where none of the tests of its kind holds it is
 /// accepted, and else nothing changes.
+#[inline(always)]
 pub fn accept_item(past: &mut Past, item: &Item, freq: u64) -> Result<(), Refused>
     requires low { least_freq ≤ freq }
     requires high { freq ≤ greatest_freq }

@@ -23,9 +23,10 @@ use ff_hands::Hands;
 use ideal_world::{Deviation, Watched, farthest};
 use rad_io::{Failed, Gate, Sink};
 use replay_run::{Options, Plan, ReadLog, play};
+use report_text::lines::{estimate_line, tick_line};
 use report_text::{
-    EndCounts, FaultText, ReportHead, Summary, end_line, estimate_line, head_line, ideal_line,
-    summary_line, tick_line,
+    EndCounts, FaultText, LineText, ReportHead, Summary, end_line, head_line, ideal_line,
+    summary_line,
 };
 use stamp_maker::{FREQ, Maker, made_world};
 use std::alloc::Global;
@@ -231,8 +232,15 @@ fn push_closing<K: Sink>(
         ticks: Some(ticks.len() as u64),
         entries: Some(entries),
     };
-    estimate_line(sink, fulls.len() as u64 - 1, &last_full(fulls), VERSION)?;
-    tick_line(sink, ticks.len() as u64 - 1, &newest(ticks))?;
+    let mut line = LineText::new();
+    estimate_line(
+        sink,
+        &mut line,
+        fulls.len() as u64 - 1,
+        &last_full(fulls),
+        VERSION,
+    )?;
+    tick_line(sink, &mut line, ticks.len() as u64 - 1, &newest(ticks))?;
     end_line(sink, &counts)
 }
 

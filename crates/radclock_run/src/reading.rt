@@ -33,6 +33,7 @@ impl Quota {
     ghost use Rattle.radclock_run.specs.Readings.{Admits, IsCounted, IsOver, IsSpent};
 
     // Counts an item that is accepted: a stamp or a set. A leap second does not count.
+    #[inline(always)]
     fn count(&mut self, item: &Item) -> Result<(), Stop>
         ensures ok { OnOk result (IsCounted self.old self.new item.now) }
         ensures err { IfErr result (λ stop. IsOver stop self.old item.now) }
@@ -50,6 +51,7 @@ impl Quota {
     }
 
     // Tests an item where there is a limit, and counts it where it is accepted.
+    #[inline(always)]
     fn admit(&mut self, freq: u64, item: &Item) -> Result<(), Stop>
         requires low { least_freq ≤ freq }
         requires high { freq ≤ greatest_freq }
@@ -72,6 +74,7 @@ impl Quota {
 
 // Keeps an item, up to the limits on items and on accepted stamps and sets. The item that passes the limit
 // on all items is not tested.
+#[inline(always)]
 fn keep_item(file: &mut StampFile, quota: &mut Quota, line: u64, item: Item) -> Result<(), Stop>
     requires tests { CanTestItem file.old.head.freq item }
     ensures ok { OnOk result (KeepsItem file.old file.new quota.old quota.new (record { line = line; item = item })) }
@@ -114,6 +117,7 @@ fn keep(file: &mut StampFile, quota: &mut Quota, line: Line) -> Result<(), Stop>
 
 // Reads bytes up to the end of a line, and keeps the line that they end. It answers how many it
 // read.
+#[inline(always)]
 fn take_line(
     feed: &mut Feed,
     file: &mut StampFile,

@@ -20,7 +20,8 @@ use crate::listings::{push_journal, push_logs};
 use ff_hands::Hands;
 use rad_io::{Failed, Sink};
 use replay_run::ReadLog;
-use report_text::{EndCounts, ReportHead, end_line, head_line, leap_line, refused_line, set_line};
+use report_text::lines::{leap_line, refused_line, set_line};
+use report_text::{EndCounts, LineText, ReportHead, end_line, head_line};
 use stamp_text::{Head, Item, Past, Stamp};
 
 /// What a command tells of each accepted stamp.
@@ -31,8 +32,14 @@ pub trait Telling {
     /// The line of a stamp that is accepted behind these, under this head.
     ghost says: { Head → List Item → Stamp → List ℕ };
 
-    /// Pushes the line of the accepted stamp with this index, from 0. It takes no memory.
-    fn tell<K: Sink>(&mut self, sink: &mut K, index: u64, stamp: &Stamp) -> Result<(), Failed>
+    /// Pushes the line of the accepted stamp with this index, from 0, which it makes in `line`. It takes no memory.
+    fn tell<K: Sink>(
+        &mut self,
+        sink: &mut K,
+        line: &mut LineText,
+        index: u64,
+        stamp: &Stamp,
+    ) -> Result<(), Failed>
         requires timed { IsInRange stamp.now }
         requires forward { stamp.now.ta ≤ stamp.now.tf }
         requires next { IsNext stands self.old index (item.Stamp stamp.now) }
@@ -70,8 +77,10 @@ pub struct Tally {
 }
 
 // Pushes the line of an item that is accepted, where so many stamps are accepted before it.
+#[inline(always)]
 fn push_accepted<K: Sink, T: Telling>(
     sink: &mut K,
+    line: &mut LineText,
     telling: &mut T,
     index: u64,
     x: &Item,
@@ -88,19 +97,20 @@ fn push_accepted<K: Sink, T: Telling>(
         accept_item head.freq items x.now ≡ Ok tt → T.stands telling.new head (items ++ x.now ∷ [])) }
 {
     match x {
-        Item::Stamp(stamp) => telling.tell(sink, index, stamp),
+        Item::Stamp(stamp) => telling.tell(sink, line, index, stamp),
         Item::Set { count, at } => {
             telling.set(*count);
-            set_line(sink, *count, *at)
+            set_line(sink, line, *count, *at)
         }
         Item::Leap { count, leap } => {
             telling.leap(*count, *leap);
-            leap_line(sink, *count, *leap)
+            leap_line(sink, line, *count, *leap)
         }
     }
 }
 
 // How many stamps an item is.
+#[inline(always)]
 fn stamps_in(x: &Item) -> u64
     ensures { result ≡ (if is_stamp x.now then 1 else 0) }
 {
@@ -111,8 +121,10 @@ fn stamps_in(x: &Item) -> u64
 }
 
 // Pushes the line of an item.
+#[inline(always)]
 fn push_item<K: Sink, T: Telling>(
     sink: &mut K,
+    line: &mut LineText,
     telling: &mut T,
     head: &Head,
     tally: &mut Tally,
@@ -137,11 +149,11 @@ fn push_item<K: Sink, T: Telling>(
 {
     match accept_item(&mut tally.past, &x.item, head.freq) {
         Ok(()) => {
-            push_accepted(sink, telling, tally.accepted, &x.item)?;
+            push_accepted(sink, line, telling, tally.accepted, &x.item)?;
             tally.accepted += stamps_in(&x.item);
         }
         Err(why) => {
-            refused_line(sink, x.line, why)?;
+            refused_line(sink, line, x.line, why)?;
             tally.refused += 1;
         }
     }
@@ -169,8 +181,9 @@ pub fn push_told<K: Sink, T: Telling>(
         accepted: 0,
         refused: 0,
     };
+    let mut line = LineText::new();
     for x in &file.items {
-        push_item(sink, telling, &file.head, &mut tally, x)?;
+        push_item(sink, &mut line, telling, &file.head, &mut tally, x)?;
     }
     Ok(tally)
 }

@@ -4,7 +4,8 @@ ghost use Rattle.radclock_run.specs.Tellings.{stamps_says};
 
 use crate::reports::Telling;
 use rad_io::{Failed, Sink};
-use report_text::stamp_line;
+use report_text::LineText;
+use report_text::lines::stamp_line;
 use stamp_text::Stamp;
 
 /// Tells each accepted stamp as it is, with its round trip.
@@ -19,8 +20,14 @@ impl Telling for Stamps {
 
     ghost says = { stamps_says };
 
-    fn tell<K: Sink>(&mut self, sink: &mut K, index: u64, stamp: &Stamp) -> Result<(), Failed> {
-        stamp_line(sink, index, stamp, self.version)
+    fn tell<K: Sink>(
+        &mut self,
+        sink: &mut K,
+        line: &mut LineText,
+        index: u64,
+        stamp: &Stamp,
+    ) -> Result<(), Failed> {
+        stamp_line(sink, line, index, stamp, self.version)
     }
 
     fn set(&mut self, _count: u64) {}
