@@ -52,7 +52,7 @@ drives-first steps old journal top spare plan = record {
   kept = refl;
 }
 
-newest-push : (ticks : List Hands) (next : Hands) → newest (ticks ++ next ∷ []) ≡ next
+pub newest-push : (ticks : List Hands) (next : Hands) → newest (ticks ++ next ∷ []) ≡ next
 newest-push ticks next = get_or_push ticks next cold _ (omega (arith, length_push ticks next))
 
 -- the next step, and the rest behind it

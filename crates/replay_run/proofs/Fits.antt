@@ -33,7 +33,7 @@ between-within ticks from to m order few =
     omega arith
 
 -- steps at which the clock goes on fit, where what follows fits whenever they end
-between-fits : (ticks from to update n m before : ℕ) (rest : List PlanStep) → from ≤ to → to < 2 ^ 62 → m + n ≤ ticks + 1
+pub between-fits : (ticks from to update n m before : ℕ) (rest : List PlanStep) → from ≤ to → to < 2 ^ 62 → m + n ≤ ticks + 1
     → before ≤ count_between ticks from to m
     → ((count : ℕ) → count ≤ to → PlanFits count update rest) → PlanFits before update (map (plain_step ticks from to) (range_with_len m n) ++ rest)
 between-fits ticks from to update zero m before rest order most few later then =
@@ -47,7 +47,7 @@ between-fits ticks from to update (suc n) m before rest order most few later the
     )
 
 -- the events behind the first one
-tail-turn : (freq : ℕ) (e : Event) (es : List Event) → AreInTurn freq (e ∷ es) → AreInTurn freq es
+pub tail-turn : (freq : ℕ) (e : Event) (es : List Event) → AreInTurn freq (e ∷ es) → AreInTurn freq es
 tail-turn freq e es are = record {
   sane = λ k d within. are.sane (suc k) d (omega arith);
   late = λ k d within. are.late (suc k) d (omega arith);
@@ -55,27 +55,27 @@ tail-turn freq e es are = record {
 }
 
 -- an estimate is of a later count than the clock's
-abbrev IsNewer : ℕ → Event → Type 0
+abbrev pub IsNewer : ℕ → Event → Type 0
 IsNewer update (event.Estimate f) = update < f.est.update_ffcount
 IsNewer update (event.Set count at) = ⊤
 
-newer-by : (update : ℕ) (e : Event) → update < count_of_event e → IsNewer update e
+pub newer-by : (update : ℕ) (e : Event) → update < count_of_event e → IsNewer update e
 newer-by update (event.Estimate f) h = h
 newer-by update (event.Set count at) h = tt
 
-first-newer : (e : Event) → IsLate e → IsNewer 0 e
+pub first-newer : (e : Event) → IsLate e → IsNewer 0 e
 first-newer (event.Estimate f) h = h
 first-newer (event.Set count at) h = tt
 
-count-most : (freq : ℕ) (e : Event) → is_sane (order_of_event freq e) ≡ true → count_of_event e < 2 ^ 62
+pub count-most : (freq : ℕ) (e : Event) → is_sane (order_of_event freq e) ≡ true → count_of_event e < 2 ^ 62
 count-most freq (event.Estimate f) sane = (sane-is f.est sane).update
 count-most freq (event.Set count at) sane = (sane-is (reset_estimate at count freq) sane).update
 
-update-is : (freq update : ℕ) (e : Event) → update_after update (order_of_event freq e) ≡ count_of_event e
+pub update-is : (freq update : ℕ) (e : Event) → update_after update (order_of_event freq e) ≡ count_of_event e
 update-is freq update (event.Estimate f) = refl
 update-is freq update (event.Set count at) = refl
 
-event-in_time : (freq update : ℕ) (e : Event) → IsNewer update e → IsInTime update (count_of_event e) (order_of_event freq e)
+pub event-in_time : (freq update : ℕ) (e : Event) → IsNewer update e → IsInTime update (count_of_event e) (order_of_event freq e)
 event-in_time freq update (event.Estimate f) newer = (newer, omega arith)
 event-in_time freq update (event.Set count at) newer = omega arith
 
@@ -100,7 +100,7 @@ from-fits freq e (next ∷ es) ticks before update are later newer =
     (newer-by from next rises)) in
     (event-fits freq e (next ∷ es) before update are later newer, subst (λ u. PlanFits from u rest) (sym (update-is freq update e)) fits)
 
-reset-sane : (freq : ℕ) → 1000000 ≤ freq → is_sane_estimate (reset_estimate start_time 0 freq) ≡ true
+pub reset-sane : (freq : ℕ) → 1000000 ≤ freq → is_sane_estimate (reset_estimate start_time 0 freq) ≡ true
 unfolding nominal_period
 reset-sane freq low =
     let most : 9223372036854775808 / freq ≤ 9223372036855 = div-le_of_le-mul freq (omega arith) in

@@ -9,3 +9,5 @@ pub mod Driving
 pub mod Reading
 pub mod Taking
 pub mod Leaving
+pub mod Going
+pub mod Feeding

@@ -4,3 +4,4 @@ pub mod Journals
 pub mod Logs
 pub mod Drives
 pub mod Plays
+pub mod Laps

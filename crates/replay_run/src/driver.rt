@@ -12,7 +12,7 @@ use tick_desk::{Crank, Pen};
 
 // Winds a clock by a step, at the step's count, or past it where a crank is out. Where the step fits the
 // clock, its order is not refused.
-fn step(pen: &mut Pen, s: &PlanStep)
+pub(crate) fn step(pen: &mut Pen, s: &PlanStep)
     requires spare { 1 ≤ pen.old.spare }
     requires fits { StepFits pen.old.top (newest pen.old.journal).est.update_ffcount s.now }
     ensures { StepsBy s.now pen.old pen.new }

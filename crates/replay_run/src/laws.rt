@@ -1,7 +1,8 @@
 // What holds of every plan, of the journal that it makes, and of the logs that are opened for it.
-ghost use Rattle.std.specs.Prelude.{◌≡◌, ◌+◌, ◌-◌, ◌*◌, ◌^◌, ◌<◌, ◌≤◌, Bool, false, true, ℕ, List, [], ◌∷◌, length, map, slice_get, Some};
+ghost use Rattle.std.specs.Prelude.{All, ◌≡◌, ◌+◌, ◌-◌, ◌*◌, ◌^◌, ◌<◌, ◌≤◌, Bool, false, true, ℕ, List, [], ◌∷◌, length, map, slice_get, Some};
 ghost use Rattle.std.specs.List.Sorted.{IsNonDecreasingBy};
-ghost use Rattle.stamp_text.specs.Past.{AreAcceptedItems};
+ghost use Rattle.stamp_text.specs.Accepted.{IsItemInRange};
+ghost use Rattle.stamp_text.specs.Past.{AreAcceptedItems, accepted_items};
 ghost use Rattle.stamp_text.specs.declared.lines.Item.{Item};
 ghost use Rattle.ff_hands.specs.Journals.{order_of, IsJournal};
 ghost use Rattle.ff_hands.specs.Orders.{fits};
@@ -15,6 +16,7 @@ ghost use Rattle.atomic_table.specs.Seated.{TableId};
 ghost use Rattle.tick_desk.specs.Shows.{new_passes};
 ghost use Rattle.replay_run.specs.Fitting.{update_after, StepFits, PlanFits};
 ghost use Rattle.replay_run.specs.Journals.{journal_of, greatest, moves_in, taken_in, IsJournalOf};
+ghost use Rattle.replay_run.specs.Laps.{AreAcceptedBehind};
 ghost use Rattle.replay_run.specs.Logs.{AreOpened, AreReady};
 ghost use Rattle.replay_run.specs.Plans.{plan_of, start_step};
 ghost use Rattle.replay_run.specs.declared.log.ReadLog.{ReadLog};
@@ -104,4 +106,10 @@ pub fn new_logs_are_ready()
         length (new_passes table number seen readers) ≡ readers }
     ensures ready { (table : TableId) (seen readers reads : ℕ) (logs : List ReadLog) →
         AreOpened reads (new_passes table 0 seen readers) logs → AreReady table reads logs }
+{}
+
+/// The law that the accepted items of a file are accepted one behind the other.
+pub fn accepted_items_follow_each_other()
+    ensures { (freq : ℕ) (more : List Item) → All IsItemInRange more →
+        AreAcceptedBehind freq [] (accepted_items freq [] more) }
 {}

@@ -3,6 +3,9 @@
 #![tactic(auto)]
 
 mod driver;
+mod feeds;
+mod lanes;
+mod laps;
 mod laws;
 mod log;
 mod plan;
@@ -11,10 +14,11 @@ mod reader;
 #[cfg(test)]
 mod tests;
 
+pub use lanes::play_lane;
 pub use laws::{
-    journals_are_legal, journals_are_the_only_ones, journals_take_each_estimate,
-    new_logs_are_ready, plans_fit, plans_go_by_each_event, plans_take_each_estimate,
-    steps_are_counted, steps_wind, targets_never_fall,
+    accepted_items_follow_each_other, journals_are_legal, journals_are_the_only_ones,
+    journals_take_each_estimate, new_logs_are_ready, plans_fit, plans_go_by_each_event,
+    plans_take_each_estimate, steps_are_counted, steps_wind, targets_never_fall,
 };
 pub use log::ReadLog;
 pub use plan::{Options, Plan, PlanStep};

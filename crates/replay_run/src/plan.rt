@@ -46,7 +46,7 @@ pub struct Plan {
 }
 
 /// The time that the clock is first set to.
-const START: Bintime = Bintime { sec: 0, frac: 0 };
+pub(crate) const START: Bintime = Bintime { sec: 0, frac: 0 };
 
 // How many steps the plan of so many events has.
 fn room_for(events: usize, ticks: u32) -> usize
@@ -58,7 +58,7 @@ fn room_for(events: usize, ticks: u32) -> usize
 
 // The count at the end of part `part` of the way between two counts, which is cut into one part more
 // than `ticks`. The product passes a word: it has up to 67 bits.
-fn count_between(from: u64, to: u64, part: u32, ticks: u32) -> u64
+pub(crate) fn count_between(from: u64, to: u64, part: u32, ticks: u32) -> u64
     requires order { from ≤ to }
     requires part { part ≤ ticks }
     ensures { result ≡ count_between ticks from to part }
@@ -81,7 +81,7 @@ fn push_between(steps: &mut Vec<PlanStep>, from: u64, to: u64, ticks: u32) -> Re
     Ok(())
 }
 
-fn count_of(event: &Event) -> u64
+pub(crate) fn count_of(event: &Event) -> u64
     ensures { result ≡ count_of_event event.now }
 {
     match event {
@@ -91,7 +91,7 @@ fn count_of(event: &Event) -> u64
 }
 
 // The step of an event, at its own count.
-fn event_step(freq: u64, event: &Event) -> PlanStep
+pub(crate) fn event_step(freq: u64, event: &Event) -> PlanStep
     requires low { 1000000 ≤ freq }
     requires high { freq ≤ 16000000000 }
     ensures { result ≡ event_step freq event.now }

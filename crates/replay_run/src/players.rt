@@ -8,12 +8,36 @@ ghost use Rattle.replay_run.specs.Plays.{HasPass, IsLentFor, IsBack, TakesIn, Ta
 
 use crate::driver::{drive, turn};
 use crate::log::ReadLog;
-use crate::plan::{Plan, PlanStep};
+use crate::plan::{Options, Plan, PlanStep};
 use crate::reader::read_all;
 use rad_io::Gate;
 use std::thread;
 use std::thread::{Threads, join_mut};
 use tick_desk::{Crank, Desk, Pen};
+
+// The readers read, each in a thread of its own.
+pub(crate) fn all_read<R: Threads + Sync, G: Gate>(
+    rt: &R,
+    logs: &mut [ReadLog],
+    freq: u64,
+    options: Options,
+    gate: &G,
+)
+    requires freq { freq < 2 ^ 62 }
+    requires ready { All (IsReady options.reads) logs.old }
+    ensures { HaveRun freq options logs.old logs.new }
+{
+    thread::for_each_mut(
+        rt,
+        logs,
+        16,
+        &|_: usize, log: &mut ReadLog|
+            requires freq { freq < 2 ^ 62 }
+            requires ready { IsReady options.reads log.old }
+            ensures { HasRun freq options log.old log.new }
+        { read_all(gate, log, freq, options) },
+    );
+}
 
 // The readers read, and the crank is turned, in threads of their own.
 fn beside<R: Threads + Sync, G: Gate>(
@@ -42,18 +66,7 @@ fn beside<R: Threads + Sync, G: Gate>(
             requires freq { freq < 2 ^ 62 }
             requires ready { All (IsReady options.reads) logs.now }
             ensures { HaveRun freq options logs.entry.now logs.exit.now }
-        {
-            thread::for_each_mut(
-                rt,
-                logs,
-                16,
-                &|_: usize, log: &mut ReadLog|
-                    requires freq { freq < 2 ^ 62 }
-                    requires ready { IsReady options.reads log.old }
-                    ensures { HasRun freq options log.old log.new }
-                { read_all(gate, log, freq, options) },
-            )
-        },
+        { all_read(rt, logs, freq, options, gate) },
     );
 }
 
@@ -126,7 +139,7 @@ fn take_in(pen: &mut Pen, log: &mut ReadLog)
 }
 
 // Takes in the passes of all logs.
-fn take_all(pen: &mut Pen, logs: &mut [ReadLog])
+pub(crate) fn take_all(pen: &mut Pen, logs: &mut [ReadLog])
     requires { All (HasPass pen.old.table) logs.old }
     ensures { TakesAll logs.old logs.new pen.old pen.new }
 {
