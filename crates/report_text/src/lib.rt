@@ -10,6 +10,7 @@ mod made;
 mod names;
 #[cfg(test)]
 mod tests;
+mod worked;
 
 pub use entries::entry_line;
 pub use laws::{made_files_are_read, made_lines_are_read};
@@ -20,3 +21,6 @@ pub use lines::{
     tick_line,
 };
 pub use made::made_line;
+pub use worked::{
+    lines_of_ends_are_worked, lines_of_items_are_worked, lines_of_replays_are_worked,
+};

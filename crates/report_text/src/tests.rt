@@ -1,6 +1,7 @@
 // Lines of a run, and those over stamp files of both versions.
 use crate::{
-    LineText, ReportHead, Summary, head_line, ideal_line, leap_line, set_line, stamp_line, summary_line,
+    LineText, ReportHead, Summary, head_line, ideal_line, leap_line, set_line, stamp_line,
+    summary_line,
 };
 use ff_grain::from_nanos;
 use rad_io::MemSink;
@@ -76,9 +77,15 @@ fn lines_of_both_versions(rt: HostRuntime) -> Result<(), Fail> {
             version,
         };
         assert_eq!(rt; head_line(&mut sink, &head), Ok(()));
-        assert_eq!(rt; stamp_line(&mut sink, &mut line, 7, &stamp, version), Ok(()));
+        assert_eq!(rt;
+            stamp_line(&mut sink, &mut line, 7, &stamp, version),
+            Ok(())
+        );
     }
-    assert_eq!(rt; set_line(&mut sink, &mut line, 20, from_nanos(8, 0)), Ok(()));
+    assert_eq!(rt;
+        set_line(&mut sink, &mut line, 20, from_nanos(8, 0)),
+        Ok(())
+    );
     assert_eq!(rt; leap_line(&mut sink, &mut line, 21, -1), Ok(()));
     assert_eq!(rt;
         sink.written(),
