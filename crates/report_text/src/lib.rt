@@ -12,6 +12,7 @@ pub mod made;
 mod names;
 #[cfg(test)]
 mod tests;
+mod worked;
 
 pub use alone::{
     base_line, entry_line, estimate_line, leap_line, made_line, refused_line, set_line, stamp_line,
@@ -22,4 +23,7 @@ pub use line::LineText;
 pub use lines::{
     EndCounts, FaultText, Limit, ReportHead, Summary, end_line, fault_line, head_line, ideal_line,
     summary_line,
+};
+pub use worked::{
+    lines_of_ends_are_worked, lines_of_items_are_worked, lines_of_replays_are_worked,
 };
