@@ -1,9 +1,9 @@
 -- Timers that are off their hooks, and what a hook may hold.
-use Rattle.std.proofs.Common.{◌≡◌, ◌≢◌, ◌⊎◌, ℕ, ◌+◌, ◌*◌, ◌/◌, ◌<◌, ◌≤◌, List, length, refl, sym, ap, ◌∙◌, subst, arith, inl, inr}
-use Rattle.std.proofs.lemmas.Bool.{cases_eq, cases_lt}
+use Rattle.std.proofs.Common.{◌≡◌, ◌≢◌, ℕ, ◌/◌, ◌<◌, ◌≤◌, List, length, refl, sym, ap, ◌∙◌, arith, inl, inr}
+use Rattle.std.proofs.lemmas.Bool.{cases_lt}
 use Rattle.std.proofs.lemmas.List.{get_or_past}
 use Rattle.callouts.specs.declared.nodes.Node.{Node}
-use Rattle.callouts.specs.Nodes.{no_node, due_at, id_at, key_at, slot_at, hook_at, held_at}
+use Rattle.callouts.specs.Nodes.{no_node, due_at, id_at, hook_at, held_at}
 use Rattle.callouts.specs.Heaps.{MayHold, AreHeaps, IsLoose, AreTorn}
 
 -- a node that hangs is one of the nodes

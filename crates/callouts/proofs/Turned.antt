@@ -1,6 +1,6 @@
 -- After one turn of a meld the heaps are torn further down.
-use Rattle.std.proofs.Common.{◌≡◌, ◌≢◌, ◌⊎◌, ℕ, ◌+◌, ◌*◌, ◌/◌, ◌<◌, ◌≤◌, List, length, refl, sym, ap, ◌∙◌, subst, arith, inl, inr}
-use Rattle.std.proofs.lemmas.Bool.{cases_eq, cases_lt}
+use Rattle.std.proofs.Common.{◌≡◌, ◌≢◌, ◌⊎◌, ℕ, ◌+◌, ◌*◌, ◌/◌, ◌≤◌, List, sym, ap, ◌∙◌, subst, arith, inl, inr}
+use Rattle.std.proofs.lemmas.Bool.{cases_eq}
 use Rattle.callouts.specs.declared.nodes.Node.{Node}
 use Rattle.callouts.specs.Nodes.{key_at, slot_at, hook_at, held_at}
 use Rattle.callouts.specs.Heaps.{MayHold, Hangs, AreTorn}

@@ -1,5 +1,5 @@
 -- One turn of a meld: a heap hangs from the hook, and what it held second comes loose.
-use Rattle.std.proofs.Common.{◌≡◌, ◌≢◌, ◌⊎◌, ℕ, ◌+◌, ◌*◌, ◌/◌, ◌<◌, ◌≤◌, List, length, refl, sym, ap, ◌∙◌, subst, arith, inl, inr}
+use Rattle.std.proofs.Common.{◌≡◌, ◌≢◌, ℕ, ◌+◌, ◌*◌, ◌/◌, ◌<◌, ◌≤◌, List, length, sym, ap, ◌∙◌, arith, inl, inr}
 use Rattle.std.proofs.lemmas.Bool.{cases_eq, cases_lt}
 use Rattle.callouts.specs.declared.nodes.Node.{Node}
 use Rattle.callouts.specs.Nodes.{due_at, id_at, key_at, slot_at, hook_at, held_at}

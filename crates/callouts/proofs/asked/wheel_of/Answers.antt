@@ -1,10 +1,9 @@
-use Rattle.std.proofs.Common.{◌≡◌, ◌+◌, ◌-◌, ◌*◌, ◌^◌, max, Some, [], ◌∷◌, length, refl, sym, ap, ◌∙◌, arith, add-one, length-set}
+use Rattle.std.proofs.Common.{◌≡◌, ◌+◌, ◌-◌, ◌*◌, ◌^◌, ◌∷◌, refl, sym, ap, ◌∙◌, arith, add-one, length-set}
 use Rattle.std.proofs.lemmas.Grind.{common_steps}
-use Rattle.std.proofs.lemmas.Int.{ints}
 use Rattle.std.proofs.lemmas.List.{length-replicate}
 use Rattle.ff_grain.specs.Grains.{grains_of}
 use Rattle.callouts.specs.declared.timers.Entry.{Entry}
-use Rattle.callouts.specs.Timers.{Kept, no_timers, room, live, with_timer}
+use Rattle.callouts.specs.Timers.{Kept, no_timers, room, live}
 use Rattle.callouts.specs.Queues.{queue, placed, in_order}
 use Rattle.callouts.specs.Firings.{timers_of}
 use Rattle.callouts.proofs.Living.{live_more}
