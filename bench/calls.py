@@ -22,10 +22,10 @@ CALLS = (
 )
 
 
-def instructions(program, call, times):
-    """How many instructions a run takes by callgrind."""
+def instructions(program, *words):
+    """How many instructions a run with these words takes by callgrind."""
     ran = subprocess.run(
-        ["valgrind", "--tool=callgrind", f"--callgrind-out-file={os.devnull}", program, call, str(times)],
+        ["valgrind", "--tool=callgrind", f"--callgrind-out-file={os.devnull}", program, *map(str, words)],
         stdin=subprocess.DEVNULL,
         stderr=subprocess.PIPE,
         check=True,

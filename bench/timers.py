@@ -1,11 +1,9 @@
 #!/usr/bin/env python3
 """Counts the instructions of the steps of a timing wheel, by a built timer_cost. See README.md."""
 import argparse
-import os
-import re
-import subprocess
 
-TIMES = 20_000
+from calls import TIMES, instructions
+
 LIVE = (1_000, 65_535)
 # What timer_cost calls, and how the table names it.
 CALLS = (
@@ -13,17 +11,6 @@ CALLS = (
     ("cancel", "`add` and `cancel`"),
     ("fire", "`fire` of one and `add`"),
 )
-
-
-def instructions(program, call, live, times):
-    """How many instructions a run takes by callgrind."""
-    ran = subprocess.run(
-        ["valgrind", "--tool=callgrind", f"--callgrind-out-file={os.devnull}", program, call, str(live), str(times)],
-        stdin=subprocess.DEVNULL,
-        stderr=subprocess.PIPE,
-        check=True,
-    )
-    return int(re.search(rb"Collected : (\d+)", ran.stderr).group(1))
 
 
 def main():
