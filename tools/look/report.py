@@ -25,6 +25,7 @@ Set = namedtuple("Set", "count time")
 Leap = namedtuple("Leap", "count sign")
 Tick = namedtuple("Tick", "number how count time lerp slope boot clock_marks given update period error rate_error marks"
                   " due total leap")
+Fire = namedtuple("Fire", "tick timer due")
 Reading = namedtuple("Reading", "reader attempt kind tick count time bound")
 Again = namedtuple("Again", "reader attempt kind first last")
 Miss = namedtuple("Miss", "reader attempt count met")
@@ -85,6 +86,7 @@ LINES = {
     "leap": (Leap, (number, sign)),
     "tick": (Tick, (number, one_of(*HOWS), number, time, time, number, time, marks, time, number, number, number,
                     number, marks, number, signed, signed)),
+    "fire": (Fire, (number, number, time)),
     "read": (Reading, (number, number, kind, number, number, time, number)),
     "again": (Again, (number, number, kind, number, number)),
     "old": (Miss, (number, number, number, number)),
@@ -95,23 +97,24 @@ LINES = {
 PARTS = {
     "rtt": (("base", "refused", "set", "leap"),),
     "estimate": (("estimate", "refused", "set", "leap"),),
-    "ticks": (("tick",),),
+    "ticks": (("tick", "fire"),),
     "replay": (("estimate", "refused", "set", "leap"), ("tick",), ("read", "again", "old", "ahead")),
 }
 SECOND = ("set", "leap")
 TOLD_LEAPS = (number, signed, signed)  # what an estimate of version 2 tells of leap seconds
 
-HEAD = re.compile(f"report (?:(rtt|estimate) freq ({NUMBER})|(ticks) freq ({NUMBER}) ticks {NUMBER}"
-                  f"|(replay) freq ({NUMBER}) ticks {NUMBER} readers {NUMBER} reads {NUMBER}(?: back)?(?: crank)?(?: utc)?)( version 2)?")
+HEAD = re.compile(f"report (?:(rtt|estimate) freq ({NUMBER})|(ticks) freq ({NUMBER}) ticks {NUMBER}(?: timers ({NUMBER}))?"
+                  f"|(replay) freq ({NUMBER}) ticks {NUMBER} readers {NUMBER} reads {NUMBER}(?: back)?(?: crank)?(?: utc)?(?: lane)?)( version 2)?")
 
 
 class Report:
     """A whole report. Its lists are empty where the command tells no such lines."""
 
-    def __init__(self, command, frequency, version):
+    def __init__(self, command, frequency, version, timers):
         self.command = command
         self.frequency = frequency
         self.version = version
+        self.timers = timers  # how many were asked for, or None
         self.reached = 0  # the count of the last estimate or set
         self.places = []  # how many accepted stamps came before each set
         self.lines = {word: [] for word in LINES}
@@ -124,6 +127,7 @@ class Report:
     sets = property(lambda self: self.lines["set"])
     leaps = property(lambda self: self.lines["leap"])
     ticks = property(lambda self: self.lines["tick"])
+    fires = property(lambda self: self.lines["fire"])
     readings = property(lambda self: self.lines["read"])
     agains = property(lambda self: self.lines["again"])
     olds = property(lambda self: self.lines["old"])
@@ -133,7 +137,8 @@ class Report:
         return sum(len(self.lines[word]) for word in PARTS["replay"][-1])
 
     def tells(self, word):
-        return any(word in part for part in PARTS[self.command]) and (self.version == 2 or word not in SECOND)
+        return (any(word in part for part in PARTS[self.command]) and (self.version == 2 or word not in SECOND)
+                and (self.timers is not None or word != "fire"))
 
     def add(self, line):
         """Takes one line behind the head, that is not the end line."""
@@ -167,6 +172,8 @@ class Report:
             self.places.append(len(self.estimates or self.bases))
         if word in ("estimate", "tick") and last.period == 0 and getattr(last, "how", "") != "cold":
             raise Wrong(f"`{word} {last.number}` has no period")
+        if word == "fire" and (last.tick != len(self.ticks) - 1 or last.timer >= self.timers):
+            raise Wrong(f"the timer {last.timer} does not fire at tick {last.tick} there")
         if word == "read" and last.tick >= len(self.ticks):
             raise Wrong(f"there is no tick {last.tick}")
 
@@ -175,6 +182,7 @@ class Report:
         due = f"end accepted {NUMBER} refused {NUMBER}"
         due += f" ticks {len(self.ticks)}" if self.tells("tick") else ""
         due += f" entries {self.entries()}" if self.tells("read") else ""
+        due += f" fired {len(self.fires)}" if self.tells("fire") else ""
         if not re.fullmatch(due, line):
             raise Wrong("no end line that fits the lines before it")
         self.accepted, self.refusals = (int(n) for n in line.split(" ")[2:5:2])
@@ -190,10 +198,11 @@ def head_of(line):
     if not found:
         raise Wrong("no report of rtt, estimate, ticks or replay")
     *pieces, version = found.groups()
+    timers = pieces.pop(4)
     command, frequency = (piece for piece in pieces if piece is not None)
     if not 1_000_000 <= int(frequency) <= 16_000_000_000:
         raise Wrong(f"no counter has {frequency} Hz here")
-    return Report(command, int(frequency), 2 if version else 1)
+    return Report(command, int(frequency), 2 if version else 1, None if timers is None else int(timers))
 
 
 def read_report(text):

@@ -73,6 +73,8 @@ def clock_lines(report):
         ahead = Fraction((last.lerp - last.time) * clock.NANOS, GRAINS)
         yield "Ticks", by_name(HOWS, (tick.how for tick in report.ticks))
         yield "Uninterrupted", f"{clock.decimal(ahead, 3)} ns ahead of the absolute clock"
+    if report.tells("fire"):
+        yield "Timers", f"{len(report.fires)} of {report.timers} fired"
     if report.tells("read"):
         yield "Reads", by_name(KINDS, (r.kind for r in report.readings))
         yield "Again", by_name(KINDS, (a.kind for a in report.agains))

@@ -104,7 +104,7 @@ def hand_replay(past_the_end):
     k = len(read)
     missed = [f"again 0 {k} mono 3 5", f"again 0 {k + 1} back 6 8", f"old 0 {k + 2} 5 900", f"ahead 0 {k + 3} {last + 9} {last}"]
     entries = read + missed
-    flags = " back crank utc" if past_the_end else " back utc"
+    flags = " back crank utc" if past_the_end else " back utc lane"
     made = [head.replace("ticks freq", "replay freq") + f" readers 1 reads {len(entries)}{flags}"]
     made += data("estimate.txt").splitlines()[1:-1] + lines + entries + [f"{end} entries {len(entries)}"]
     return "\n".join(made) + "\n"
@@ -245,6 +245,23 @@ class Summary(unittest.TestCase):
         self.assertLess(abs(Fraction(told) - ahead), Fraction(1, 1000))
         self.assertIn("Ticks         : cold 1, plain 46, take 23", out)
         self.assertIn("Base          : ", look(["summary"], data("rtt.txt"))[1])
+
+    def test_timers(self):
+        text = data("ticks.txt")
+        head, end = "ticks 2\n", "ticks 72\n"
+        self.assertEqual((text.count(head), text.count(end)), (1, 1))
+        none = text.replace(head, "ticks 2 timers 0\n").replace(end, "ticks 72 fired 0\n")
+        self.assertIn("Timers        : 0 of 0 fired\n", look(["summary"], none)[1])
+        self.assertNotIn("Timers", look(["summary"], text)[1])
+        two = text.replace(head, "ticks 2 timers 3\n").replace(end, "ticks 72 fired 2\n")
+        two = two.replace("\ntick 6 ", "\nfire 5 2 1+0\nfire 5 1 2+0\ntick 6 ")
+        self.assertIn("Timers        : 2 of 3 fired\n", look(["summary"], two)[1])
+        count = two.splitlines()[-2].split(" ")[3]
+        self.assertEqual(look(["at", count], two), look(["at", count], text))
+        for old, new in (("fire 5 2", "fire 4 2"), ("fire 5 2", "fire 6 2"), ("fire 5 2", "fire 5 3"), ("fired 2", "fired 3"),
+                         (" fired 2", ""), (" timers 3", ""), ("1+0", "1")):
+            with self.assertRaises(Wrong, msg=new):
+                read_report(two.replace(old, new, 1))
 
     def test_refusals_by_name(self):
         text = "report estimate freq 1000000000\nrefused 3 overlap\nrefused 5 acausal\nrefused 7 overlap\nend accepted 0 refused 3\n"

@@ -17,3 +17,5 @@ mod Living
 mod Listing
 mod Ordering
 mod Walking
+mod Told
+mod Uptimes

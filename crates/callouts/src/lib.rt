@@ -13,8 +13,8 @@ mod timers;
 mod wheel;
 mod winners;
 
-pub use asked::wheel_of;
-pub use firings::{Firing, fire_all};
+pub use asked::{fire_asked, wheel_of};
+pub use firings::{Firing, fire_all, split_firings};
 pub use laws::{
     asked_timers_are_worked, timers_fire_at_their_first_tick, timers_stay_at_their_places,
     wheels_are_lists, wheels_are_queues,

@@ -2,7 +2,7 @@
 ghost use Rattle.std.specs.Prelude.{◌≡◌, ◌+◌, ◌<◌, ◌≤◌, ◌^◌};
 ghost use Rattle.callouts.specs.Timers.{IsDue};
 
-use crate::{Wheel, WheelFull};
+use crate::{Fired, Wheel, WheelFull};
 use ff_grain::Bintime;
 use std::test::Fail;
 
@@ -60,5 +60,58 @@ fn rounds_are_no_hindrance(rt: HostRuntime) -> Result<(), Fail> {
     assert_eq!(rt; wheel.fire(seconds(900)).map(|f| f.id), Some(2));
     assert_eq!(rt; wheel.fire(seconds(900)), None);
     assert_eq!(rt; wheel.fire(seconds(1000)).map(|f| f.id), Some(0));
+    Ok(())
+}
+
+// So many seconds, less than 2^46, and grains.
+fn at(sec: u64, frac: u64) -> Bintime
+    ensures { IsDue result }
+{
+    Bintime {
+        sec: sec.min(70_368_744_177_663) as i64,
+        frac,
+    }
+}
+
+// When timers of slot 0 are due, from the last to the first: up to the last round that a timer may be due in, and some of
+// them a grain apart.
+const ROUNDS: [(u64, u64); 10] = [
+    (70_368_744_177_408, u64::MAX),
+    (70_368_744_177_408, 1),
+    (70_368_744_177_408, 0),
+    (4_294_967_296, 0),
+    (65_536, u64::MAX),
+    (65_536, 0),
+    (512, 0),
+    (256, 1),
+    (256, 0),
+    (0, 1),
+];
+
+// Adds all of them.
+fn add_rounds(wheel: &mut Wheel)
+    requires { wheel.old.added ≡ 0 }
+{
+    for i in 0..10 {
+        let (sec, frac) = ROUNDS[i];
+        let _ = wheel.add(at(sec, frac));
+    }
+}
+
+#[test]
+fn a_slot_fires_round_by_round(rt: HostRuntime) -> Result<(), Fail> {
+    let mut wheel = Wheel::new(rt.alloc(), 10)?;
+    add_rounds(&mut wheel);
+    for k in 0..10 {
+        let i = 9 - k;
+        let (sec, frac) = ROUNDS[i];
+        let due = at(sec, frac);
+        // At the due time of the one before it is not due yet.
+        let (sec, frac) = if i == 9 { (0, 0) } else { ROUNDS[i + 1] };
+        assert_eq!(rt; wheel.fire(at(sec, frac)), None, "at {i}");
+        let fired = Fired { id: i as u64, due };
+        assert_eq!(rt; wheel.fire(due), Some(fired), "at {i}");
+    }
+    assert_eq!(rt; wheel.fire(at(u64::MAX, u64::MAX)), None);
     Ok(())
 }

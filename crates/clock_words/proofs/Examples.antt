@@ -55,9 +55,22 @@ unfolding items_in items_from
 short = refl
 
 -- values in their ranges, as numbers are written
-most : command_in (codes "ticks" ∷ codes "--ticks=15" ∷ []) ≡ Some (command.Report (report.Ticks 15))
+most : command_in (codes "ticks" ∷ codes "--ticks=15" ∷ []) ≡ Some (command.Report (report.Ticks 15 None))
 unfolding command_in items_in items_from
 most = refl
+
+-- options in either order, and one that is given is told even where it is 0
+timers : command_in (codes "ticks" ∷ codes "--timers=0" ∷ codes "--ticks" ∷ codes "1" ∷ []) ≡ Some (command.Report (report.Ticks 1 (Some 0)))
+unfolding command_in items_in items_from
+timers = refl
+
+most_timers : command_in (codes "ticks" ∷ codes "--ticks=1" ∷ codes "--timers" ∷ codes "1000" ∷ []) ≡ Some (command.Report (report.Ticks 1 (Some 1000)))
+unfolding command_in items_in items_from
+most_timers = refl
+
+too_many_timers : command_in (codes "ticks" ∷ codes "--timers" ∷ codes "1001" ∷ []) ≡ None
+unfolding command_in items_in items_from
+too_many_timers = refl
 
 one_more : command_in (codes "ticks" ∷ codes "--ticks=16" ∷ []) ≡ None
 unfolding command_in items_in items_from
@@ -76,18 +89,27 @@ unfolding command_in items_in items_from
 made = refl
 
 -- flags and options of `replay`, each at its default where the words do not tell
-plain_replay : command_in (codes "replay" ∷ []) ≡ Some (command.Report (report.Replay 4 2 100 false false false))
+plain_replay : command_in (codes "replay" ∷ []) ≡ Some (command.Report (report.Replay 4 2 100 false false false false))
 unfolding command_in items_in items_from
 plain_replay = refl
 
 full_replay : command_in (codes "replay" ∷ codes "--crank" ∷ codes "--readers=16" ∷ codes "--ticks" ∷ codes "15" ∷ codes "--back" ∷ codes "--utc"
-    ∷ codes "--reads" ∷ codes "16384" ∷ []) ≡ Some (command.Report (report.Replay 15 16 16384 true true true))
+    ∷ codes "--reads" ∷ codes "16384" ∷ []) ≡ Some (command.Report (report.Replay 15 16 16384 true true true false))
 unfolding command_in items_in items_from
 full_replay = refl
 
-one_flag : command_in (codes "replay" ∷ codes "--reads=0" ∷ codes "--crank" ∷ []) ≡ Some (command.Report (report.Replay 4 2 0 false true false))
+one_flag : command_in (codes "replay" ∷ codes "--reads=0" ∷ codes "--crank" ∷ []) ≡ Some (command.Report (report.Replay 4 2 0 false true false false))
 unfolding command_in items_in items_from
 one_flag = refl
+
+with_lane : command_in (codes "replay" ∷ codes "--ticks" ∷ codes "1" ∷ codes "--readers" ∷ codes "0" ∷ codes "--lane" ∷ [])
+    ≡ Some (command.Report (report.Replay 1 0 100 false false false true))
+unfolding command_in items_in items_from
+with_lane = refl
+
+lane_with_crank : command_in (codes "replay" ∷ codes "--lane" ∷ codes "--crank" ∷ []) ≡ None
+unfolding command_in items_in items_from
+lane_with_crank = refl
 
 one_reader_more : command_in (codes "replay" ∷ codes "--readers=17" ∷ []) ≡ None
 unfolding command_in items_in items_from

@@ -9,7 +9,7 @@ use Rattle.std.proofs.lemmas.Slice.Eq.{bytes_eq-Decides}
 use Rattle.stamp_text.specs.Digits.{is_number, number_in}
 use Rattle.clock_words.specs.Rows.{Text, Item, has, is_given, is_value, items_in, items_from}
 use Rattle.clock_words.specs.Parts.{AreOnce, AreParts, AreWritten, dashed, nothing, flag, apart, joined, placed}
-use Rattle.clock_words.specs.Lines.{IsLine, stamps, rtt, estimate, ticks, replay, make, run, ideal_run, bare_row, ticks_row, replay_row, make_row, run_row, back_name, crank_name, utc_name, ideal_name, number_name, count_name, most_made, most_ran, within, number_within, ticks_told, readers_told, reads_told, ticks_of, replay_by, replay_of, make_of, run_of, ideal_is_early, command_in}
+use Rattle.clock_words.specs.Lines.{IsLine, stamps, rtt, estimate, ticks, replay, make, run, ideal_run, bare_row, ticks_row, replay_row, make_row, run_row, back_name, crank_name, utc_name, lane_name, ideal_name, number_name, count_name, most_made, most_ran, within, number_within, ticks_told, timers_told, readers_told, reads_told, ticks_by, ticks_of, has_both, replay_by, replay_of, make_of, run_of, ideal_is_early, command_in}
 use Rattle.clock_words.specs.declared.commands.Command.{Command}
 use Rattle.clock_words.specs.declared.commands.Command.TheVariants as command
 use Rattle.clock_words.specs.declared.commands.Report.{Report}
@@ -124,34 +124,40 @@ bare_line r name words c line e = by_items (items_in bare_row words) refl
 ticks_line : (words : List Text) (c : Command) → option_and_then ticks_of (items_in ticks_row words) ≡ Some c → IsLine (codes "ticks" ∷ words) c
 ticks_line words c e = by_items (items_in ticks_row words) refl
   where
-    by_value : (items : List Item) → items_in ticks_row words ≡ Some items → (n : Option ℕ) → ticks_told items ≡ n
-        → option_map (λ n. command.Report (report.Ticks n)) n ≡ Some c → IsLine (codes "ticks" ∷ words) c
-    by_value items f None g h = absurd (let q : None ≡ Some c = h in cc)
-    by_value items f (Some n) g h = subst (IsLine (codes "ticks" ∷ words)) (let q : command.Report (report.Ticks n) ≡ c = cc in q)
-        (ticks words items n ((written ticks_row refl words items).0 f) g)
+    by_numbers : (items : List Item) → items_in ticks_row words ≡ Some items → (n : Option ℕ) → ticks_told items ≡ n
+        → (timers : Option (Option ℕ)) → timers_told items ≡ timers → ticks_by n timers ≡ Some c → IsLine (codes "ticks" ∷ words) c
+    by_numbers items f None k timers l h = absurd (let q : None ≡ Some c = h in cc)
+    by_numbers items f (Some n) k None l h = absurd (let q : None ≡ Some c = h in cc)
+    by_numbers items f (Some n) k (Some timers) l h = subst (IsLine (codes "ticks" ∷ words))
+        (let q : command.Report (report.Ticks n timers) ≡ c = cc in q) (ticks words items n timers ((written ticks_row refl words items).0 f) k l)
 
     by_items : (x : Option (List Item)) → items_in ticks_row words ≡ x → IsLine (codes "ticks" ∷ words) c
     by_items None f = absurd (let q : None ≡ Some c = sym (rw f refl) ∙ e in cc)
-    by_items (Some items) f = by_value items f (ticks_told items) refl (sym (rw f refl) ∙ e)
+    by_items (Some items) f = by_numbers items f _ refl _ refl (sym (rw f refl) ∙ e)
 
 replay_line : (words : List Text) (c : Command) → option_and_then replay_of (items_in replay_row words) ≡ Some c → IsLine (codes "replay" ∷ words) c
 replay_line words c e = by_items (items_in replay_row words) refl
   where
     by_numbers : (items : List Item) → items_in replay_row words ≡ Some items → (n : Option ℕ) → ticks_told items ≡ n
         → (readers : Option ℕ) → readers_told items ≡ readers
-        → (reads : Option ℕ) → reads_told items ≡ reads → replay_by (is_given back_name items) (is_given crank_name items) (is_given utc_name items)
-        n readers reads ≡ Some c → IsLine (codes "replay" ∷ words) c
-    by_numbers items f None k readers l reads m h = absurd (let q : None ≡ Some c = h in cc)
-    by_numbers items f (Some n) k None l reads m h = absurd (let q : None ≡ Some c = h in cc)
-    by_numbers items f (Some n) k (Some readers) l None m h = absurd (let q : None ≡ Some c = h in cc)
-    by_numbers items f (Some n) k (Some readers) l (Some reads) m h =
+        → (reads : Option ℕ) → reads_told items ≡ reads → has_both items ≡ false → replay_by (is_given back_name items) (is_given crank_name items)
+        (is_given utc_name items) (is_given lane_name items) n readers reads ≡ Some c → IsLine (codes "replay" ∷ words) c
+    by_numbers items f None k readers l reads m b h = absurd (let q : None ≡ Some c = h in cc)
+    by_numbers items f (Some n) k None l reads m b h = absurd (let q : None ≡ Some c = h in cc)
+    by_numbers items f (Some n) k (Some readers) l None m b h = absurd (let q : None ≡ Some c = h in cc)
+    by_numbers items f (Some n) k (Some readers) l (Some reads) m b h =
         subst (IsLine (codes "replay" ∷ words)) (let q : command.Report
-        (report.Replay n readers reads (is_given back_name items) (is_given crank_name items) (is_given utc_name items)) ≡ c = cc in q)
-        (replay words items n readers reads ((written replay_row refl words items).0 f) k l m)
+        (report.Replay n readers reads (is_given back_name items) (is_given crank_name items) (is_given utc_name items) (is_given lane_name items))
+        ≡ c = cc in q) (replay words items n readers reads ((written replay_row refl words items).0 f) k l m b)
+
+    by_both : (items : List Item) → items_in replay_row words ≡ Some items → (b : Bool) → has_both items ≡ b → replay_of items ≡ Some c
+        → IsLine (codes "replay" ∷ words) c
+    by_both items f true b h = absurd (let q : None ≡ Some c = sym (rw b refl) ∙ h in cc)
+    by_both items f false b h = by_numbers items f _ refl _ refl _ refl b (sym (rw b refl) ∙ h)
 
     by_items : (x : Option (List Item)) → items_in replay_row words ≡ x → IsLine (codes "replay" ∷ words) c
     by_items None f = absurd (let q : None ≡ Some c = sym (rw f refl) ∙ e in cc)
-    by_items (Some items) f = by_numbers items f _ refl _ refl _ refl (sym (rw f refl) ∙ e)
+    by_items (Some items) f = by_both items f _ refl (sym (rw f refl) ∙ e)
 
 -- what is made of two numbers
 abbrev made_by : (ℕ → ℕ → Command) → Option ℕ → Option ℕ → Option Command
@@ -336,11 +342,10 @@ unfolding command_in items_in items_from
 to_command words c stamps = refl
 to_command words c rtt = refl
 to_command words c estimate = refl
-to_command words c (ticks rest items n w h) = ap (option_and_then ticks_of) ((written ticks_row refl rest items).1 w)
-    ∙ ap (option_map (λ n. command.Report (report.Ticks n))) h
-to_command words c (replay rest items n readers reads w k l m) =
+to_command words c (ticks rest items n timers w h k) = ap (option_and_then ticks_of) ((written ticks_row refl rest items).1 w) ∙ rw (h, k) refl
+to_command words c (replay rest items n readers reads w k l m b) =
     ap (option_and_then replay_of) ((written replay_row refl rest items).1 w)
-    ∙ rw (k, l, m) refl
+    ∙ rw (k, l, m, b) refl
 to_command words c (make first second number count f g) =
     ap (option_and_then make_of) ((written make_row refl _ _).1 (pair_written first second (place_plain _ _ first number f) (place_plain _ _ second count g)))
     ∙ ap (λ a. made_by command.Make a (number_within 1 most_made second)) f ∙ ap (made_by command.Make (Some number)) g

@@ -1,5 +1,5 @@
 -- The lines of the program: the name of a command, and what its row has behind it.
-use Rattle.std.specs.Prelude.{◌≡◌, ◌↔◌, ℕ, ◌<◌, ◌≤◌, ◌^◌, ◌-◌, Bool, false, true, nat_le, if◌then◌else◌, List, [], ◌∷◌, take, Option, None, Some, codes, option_map, option_and_then}
+use Rattle.std.specs.Prelude.{◌≡◌, ◌↔◌, ℕ, ◌<◌, ◌≤◌, ◌^◌, ◌-◌, ◌&&◌, Bool, false, true, nat_le, if◌then◌else◌, List, [], ◌∷◌, take, Option, None, Some, IfSome, codes, option_map, option_and_then}
 use Rattle.std.specs.Option.{option_zip}
 use Rattle.std.specs.Str.{bytes_eq}
 use Rattle.stamp_text.specs.Digits.{number_in}
@@ -13,6 +13,9 @@ use Rattle.clock_words.specs.declared.commands.Report.TheVariants as report
 -- the names of a row
 abbrev pub ticks_name : Text
 ticks_name = codes "ticks"
+
+abbrev pub timers_name : Text
+timers_name = codes "timers"
 
 abbrev pub readers_name : Text
 readers_name = codes "readers"
@@ -29,6 +32,9 @@ crank_name = codes "crank"
 abbrev pub utc_name : Text
 utc_name = codes "utc"
 
+abbrev pub lane_name : Text
+lane_name = codes "lane"
+
 abbrev pub number_name : Text
 number_name = codes "NUMBER"
 
@@ -42,9 +48,9 @@ ideal_name = codes "ideal"
 abbrev pub bare_row : Row
 bare_row = record { places = []; options = []; flags = [] }
 
--- `--ticks T`
+-- `--ticks T` and `--timers N`
 abbrev pub ticks_row : Row
-ticks_row = record { places = []; options = ticks_name ∷ []; flags = [] }
+ticks_row = record { places = []; options = ticks_name ∷ timers_name ∷ []; flags = [] }
 
 -- `NUMBER COUNT`
 abbrev pub make_row : Row
@@ -54,9 +60,13 @@ make_row = record { places = number_name ∷ count_name ∷ []; options = []; fl
 abbrev pub run_row : Row
 run_row = record { places = number_name ∷ count_name ∷ []; options = []; flags = ideal_name ∷ [] }
 
--- `--ticks T`, `--readers N`, `--reads M`, `--back`, `--crank` and `--utc`
+-- `--ticks T`, `--readers N`, `--reads M`, `--back`, `--crank`, `--utc` and `--lane`
 abbrev pub replay_row : Row
-replay_row = record { places = []; options = ticks_name ∷ readers_name ∷ reads_name ∷ []; flags = back_name ∷ crank_name ∷ utc_name ∷ [] }
+replay_row = record {
+  places = [];
+  options = ticks_name ∷ readers_name ∷ reads_name ∷ [];
+  flags = back_name ∷ crank_name ∷ utc_name ∷ lane_name ∷ [];
+}
 
 -- the number that a text is, from `least` to `most`
 abbrev pub within : ℕ → ℕ → Option ℕ → Option ℕ
@@ -71,6 +81,11 @@ abbrev pub option_within : ℕ → ℕ → ℕ → Option Text → Option ℕ
 option_within least most default None = Some default
 option_within least most default (Some text) = number_within least most text
 
+-- the value of an option that has nothing in its stead where the words do not give it
+abbrev pub given_within : ℕ → ℕ → Option Text → Option (Option ℕ)
+given_within least most None = Some None
+given_within least most (Some text) = option_map Some (number_within least most text)
+
 -- the value in a place
 abbrev pub place_within : ℕ → ℕ → Option Text → Option ℕ
 place_within least most text = option_and_then (number_within least most) text
@@ -78,6 +93,10 @@ place_within least most text = option_and_then (number_within least most) text
 -- the most plain steps between two estimates
 abbrev pub most_ticks : ℕ
 most_ticks = 15
+
+-- the most timers
+abbrev pub most_timers : ℕ
+most_timers = 1000
 
 -- the most readers
 abbrev pub most_readers : ℕ
@@ -99,25 +118,37 @@ most_ran = 4096
 abbrev pub ticks_told : List Item → Option ℕ
 ticks_told items = option_within 0 most_ticks 4 (value_of ticks_name items)
 
+abbrev pub timers_told : List Item → Option (Option ℕ)
+timers_told items = given_within 0 most_timers (value_of timers_name items)
+
 abbrev pub readers_told : List Item → Option ℕ
 readers_told items = option_within 0 most_readers 2 (value_of readers_name items)
 
 abbrev pub reads_told : List Item → Option ℕ
 reads_told items = option_within 0 most_reads 100 (value_of reads_name items)
 
--- `ticks`: so many plain steps between two estimates, and 4 where the words do not tell
-abbrev pub ticks_of : List Item → Option Command
-ticks_of items = option_map (λ n. command.Report (report.Ticks n)) (ticks_told items)
+-- `ticks`: so many plain steps between two estimates, and 4 where the words do not tell; and so many timers,
+-- if the words tell of any
+abbrev pub ticks_by : Option ℕ → Option (Option ℕ) → Option Command
+ticks_by n timers = option_map (λ p. command.Report (report.Ticks p.0 p.1)) (option_zip n timers)
 
--- `replay` by three numbers, where each is one, and three flags
-abbrev pub replay_by : Bool → Bool → Bool → Option ℕ → Option ℕ → Option ℕ → Option Command
-replay_by back crank utc n readers reads = option_map (λ n. command.Report (report.Replay n.0 n.1.0 n.1.1 back crank utc))
+abbrev pub ticks_of : List Item → Option Command
+ticks_of items = ticks_by (ticks_told items) (timers_told items)
+
+-- `replay` by three numbers, where each is one, and four flags
+abbrev pub replay_by : Bool → Bool → Bool → Bool → Option ℕ → Option ℕ → Option ℕ → Option Command
+replay_by back crank utc lane n readers reads = option_map (λ n. command.Report (report.Replay n.0 n.1.0 n.1.1 back crank utc lane))
     (option_zip n (option_zip readers reads))
 
--- `replay`: the numbers of its options, and which of its flags are given
+-- a crank and a lane are both given
+abbrev pub has_both : List Item → Bool
+has_both items = is_given crank_name items && is_given lane_name items
+
+-- `replay`: the numbers of its options, and which of its flags are given; a crank goes with no lane
 abbrev pub replay_of : List Item → Option Command
-replay_of items = replay_by (is_given back_name items) (is_given crank_name items) (is_given utc_name items) (ticks_told items) (readers_told items)
-    (reads_told items)
+replay_of items = if has_both items then None
+    else replay_by (is_given back_name items) (is_given crank_name items) (is_given utc_name items) (is_given lane_name items) (ticks_told items)
+    (readers_told items) (reads_told items)
 
 -- the two numbers that places give: one below 2^32, and a count from 1 to `most`
 abbrev pub places_told : ℕ → List Item → Option (ℕ × ℕ)
@@ -182,12 +213,12 @@ pub data IsLine : List Text → Command → Type 0 where
   stamps : IsLine (codes "stamps" ∷ []) (command.Report report.Stamps)
   rtt : IsLine (codes "rtt" ∷ []) (command.Report report.Rtt)
   estimate : IsLine (codes "estimate" ∷ []) (command.Report report.Estimate)
-  ticks : (words : List Text) (items : List Item) (n : ℕ) → AreWritten ticks_row words items → ticks_told items ≡ Some n
-      → IsLine (codes "ticks" ∷ words) (command.Report (report.Ticks n))
+  ticks : (words : List Text) (items : List Item) (n : ℕ) (timers : Option ℕ) → AreWritten ticks_row words items → ticks_told items ≡ Some n
+      → timers_told items ≡ Some timers → IsLine (codes "ticks" ∷ words) (command.Report (report.Ticks n timers))
   replay : (words : List Text) (items : List Item) (n readers reads : ℕ) → AreWritten replay_row words items → ticks_told items ≡ Some n
-      → readers_told items ≡ Some readers → reads_told items ≡ Some reads
+      → readers_told items ≡ Some readers → reads_told items ≡ Some reads → has_both items ≡ false
       → IsLine (codes "replay" ∷ words) (command.Report (report.Replay n readers reads (is_given back_name items) (is_given crank_name items)
-      (is_given utc_name items)))
+      (is_given utc_name items) (is_given lane_name items)))
   make : (first second : Text) (number count : ℕ) → number_within 0 (2 ^ 32 - 1) first ≡ Some number → number_within 1 most_made second ≡ Some count
       → IsLine (codes "make" ∷ first ∷ second ∷ []) (command.Make number count)
   run : (first second : Text) (number count : ℕ) → number_within 0 (2 ^ 32 - 1) first ≡ Some number → number_within 1 most_ran second ≡ Some count
@@ -199,13 +230,14 @@ pub data IsLine : List Text → Command → Type 0 where
 abbrev pub IsCommandOf : List Text → Option Command → Type 0
 IsCommandOf words found = (c : Command) → (found ≡ Some c) ↔ IsLine words c
 
--- the numbers of a report are in their ranges
+-- the numbers of a report are in their ranges, and its flags go together
 abbrev pub IsReportInRange : Report → Type 0
 IsReportInRange report.Stamps = Unit {0}
 IsReportInRange report.Rtt = Unit {0}
 IsReportInRange report.Estimate = Unit {0}
-IsReportInRange (report.Ticks n) = n ≤ most_ticks
-IsReportInRange (report.Replay n readers reads back crank utc) = (n ≤ most_ticks) × (readers ≤ most_readers) × (reads ≤ most_reads)
+IsReportInRange (report.Ticks n timers) = (n ≤ most_ticks) × IfSome timers (λ m. m ≤ most_timers)
+IsReportInRange (report.Replay n readers reads back crank utc lane) = (n ≤ most_ticks) × (readers ≤ most_readers) × (reads ≤ most_reads)
+    × (lane ≡ true → crank ≡ false)
 
 -- the numbers of a command are in their ranges
 abbrev pub IsCommandInRange : Command → Type 0

@@ -13,6 +13,8 @@ pub enum Report {
     /// steps between two of them, at most 15.
     Ticks {
         ticks: u32,
+        /// How many timers are added before the first tick, at most 1,000, if they are asked for.
+        timers: Option<u32>,
     },
     /// The daemon's estimates, the refused stamps, the journal of ticks that they make, and what
     /// readers of the clock read while it was made.
@@ -29,6 +31,8 @@ pub enum Report {
         crank: bool,
         /// The readers also read `Utc`.
         utc: bool,
+        /// The daemon runs in a thread of its own. A replay with a crank has no lane.
+        lane: bool,
     },
 }
 

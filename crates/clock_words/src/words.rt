@@ -2,7 +2,7 @@
 ghost use Rattle.std.specs.Prelude.{◌≡◌, ◌≤◌, ◌<◌, ◌^◌, ◌-◌, IfOk, IfErr, OnErr, IfSome, true, option_map};
 ghost use Rattle.clap.specs.Values.{kind_of};
 ghost use Rattle.clock_words.specs.Rows.{has, texts};
-ghost use Rattle.clock_words.specs.Lines.{IsCommandOf, IsCommandInRange, IsReportInRange, bare_in, ticks_in, replay_in, make_in, run_in, ideal_is_early, number_within, option_within, places_told, command_names, begins_with_name, command_named, command_in};
+ghost use Rattle.clock_words.specs.Lines.{IsCommandOf, IsCommandInRange, IsReportInRange, bare_in, ticks_in, replay_in, make_in, run_in, ideal_is_early, number_within, option_within, given_within, places_told, command_names, begins_with_name, command_named, command_in};
 
 use crate::rows::{self, Arguments};
 use crate::{Command, Report};
@@ -17,6 +17,9 @@ const TICKS: u64 = 4;
 
 /// The most plain steps between two estimates.
 const MOST_TICKS: u64 = 15;
+
+/// The most timers.
+const MOST_TIMERS: u64 = 1000;
 
 /// How many readers read the clock where the words do not tell.
 const READERS: u64 = 2;
@@ -64,6 +67,18 @@ fn option_within(most: u64, default: u64, text: Option<&str>) -> Option<u64>
     }
 }
 
+// The value of an option, up to `most`, if the words give it.
+fn given_within(most: u64, text: Option<&str>) -> Option<Option<u32>>
+    requires { most < 2 ^ 32 }
+    ensures value { result ≡ given_within 0 most (option_map (λ t. t.now) text.entry) }
+    ensures within { IfSome result (λ given. IfSome given (λ n. n ≤ most)) }
+{
+    match text {
+        Some(text) => number_within(0, most, text).map(|n| Some(n as u32)),
+        None => Some(None),
+    }
+}
+
 // A report whose command has nothing behind its name.
 fn bare<'a>(alloc: Global, report: Report, words: &'a [&'a str]) -> Result<Option<Command>, Error>
     requires { IsReportInRange report }
@@ -85,12 +100,16 @@ fn ticks<'a>(alloc: Global, words: &'a [&'a str]) -> Result<Option<Command>, Err
     let Some(arguments) = rows::ticks(alloc, words)? else {
         return Ok(None);
     };
-    match option_within(MOST_TICKS, TICKS, arguments.value("ticks")) {
-        Some(ticks) => Ok(Some(Command::Report(Report::Ticks {
-            ticks: ticks as u32,
-        }))),
-        None => Ok(None),
-    }
+    let Some(ticks) = option_within(MOST_TICKS, TICKS, arguments.value("ticks")) else {
+        return Ok(None);
+    };
+    let Some(timers) = given_within(MOST_TIMERS, arguments.value("timers")) else {
+        return Ok(None);
+    };
+    Ok(Some(Command::Report(Report::Ticks {
+        ticks: ticks as u32,
+        timers,
+    })))
 }
 
 fn replay<'a>(alloc: Global, words: &'a [&'a str]) -> Result<Option<Command>, Error>
@@ -101,6 +120,10 @@ fn replay<'a>(alloc: Global, words: &'a [&'a str]) -> Result<Option<Command>, Er
     let Some(arguments) = rows::replay(alloc, words)? else {
         return Ok(None);
     };
+    let (crank, lane) = (arguments.flag("crank"), arguments.flag("lane"));
+    if crank && lane {
+        return Ok(None);
+    }
     match (
         option_within(MOST_TICKS, TICKS, arguments.value("ticks")),
         option_within(MOST_READERS, READERS, arguments.value("readers")),
@@ -111,8 +134,9 @@ fn replay<'a>(alloc: Global, words: &'a [&'a str]) -> Result<Option<Command>, Er
             readers: readers as u32,
             reads: reads as u32,
             back: arguments.flag("back"),
-            crank: arguments.flag("crank"),
+            crank,
             utc: arguments.flag("utc"),
+            lane,
         }))),
         _ => Ok(None),
     }

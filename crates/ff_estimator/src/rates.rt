@@ -1,67 +1,36 @@
 // The rates at the newest stamp.
 ghost use Rattle.std.specs.Prelude.{◌≡◌, ◌<◌, ◌≤◌, ◌^◌, true};
 ghost use Rattle.rtt_window.specs.Pairs.{pair_of, ArePair};
+ghost use Rattle.stamp_text.specs.declared.lines.Stamp.{Stamp};
 ghost use Rattle.rate_pair.specs.Rates.{IsRate, rate_of};
+ghost use Rattle.rate_pair.specs.Intervals.{IsBetween};
 ghost use Rattle.ff_estimator.specs.Rates.{rate_by, uses_local};
 ghost use Rattle.ff_estimator.specs.Daemons.{AreRates};
 
-use ff_grain::Bintime;
-use rate_pair::{Rate, nominal, of_pair};
+use rate_pair::{Interval, Rate, between, nominal, of_interval};
 use rtt_window::Window;
 use stamp_text::Stamp;
 
-// Whether two times have the same seconds and grains.
+// Whether two intervals have the same grains, counts and round trips.
 #[inline(always)]
-fn is_same_time(a: &Bintime, b: &Bintime) -> bool
+fn is_same(a: &Interval, b: &Interval) -> bool
     ensures { result ≡ true → a.now ≡ b.now }
 {
-    a.sec == b.sec && a.frac == b.frac
+    a.counts == b.counts && a.trips == b.trips && a.grains == b.grains
 }
 
-// Whether two stamps have the same columns.
-#[inline(always)]
-fn is_same(a: &Stamp, b: &Stamp) -> bool
-    ensures { result ≡ true → a.now ≡ b.now }
-{
-    if a.ta != b.ta || a.tf != b.tf || !is_same_time(&a.tb, &b.tb) {
-        return false;
-    }
-    if a.stratum != b.stratum || a.leap != b.leap {
-        return false;
-    }
-    is_same_time(&a.te, &b.te)
-}
-
-/// The rate of a pair of stamps, kept as long as the pair stays.
+/// The rate of a pair of stamps by what lies between them, kept as long as that stays.
 #[derive(Clone, Copy)]
 pub struct PairRate {
-    first: Stamp,
-    second: Stamp,
+    between: Interval,
     freq: u64,
     rate: Rate,
-    ghost is_rate: { rate ≡ rate_of first second freq },
+    ghost is_rate: { (j k : Stamp) → IsBetween between j k → rate ≡ rate_of j k freq },
     ghost order: { IsRate freq rate },
     ghost bound: { rate.high < 2 ^ 45 },
 }
 
-impl PairRate {
-    ghost use Rattle.std.specs.Prelude.{◌≡◌, true};
-
-    // It is the rate of this pair.
-    #[inline(always)]
-    fn is_of(&self, j: &Stamp, k: &Stamp, freq: u64) -> bool
-        ensures first { result ≡ true → self.now.first ≡ j.now }
-        ensures second { result ≡ true → self.now.second ≡ k.now }
-        ensures freq { result ≡ true → self.now.freq ≡ freq }
-    {
-        if self.freq != freq || !is_same(&self.first, j) {
-            return false;
-        }
-        is_same(&self.second, k)
-    }
-}
-
-// The rate of a pair: the kept one, or where the pair is another, its own, which is then kept.
+// The rate of a pair: the kept one, or where something else lies between, its own, which is then kept.
 #[inline(always)]
 fn pair_rate(last: &mut Option<PairRate>, j: &Stamp, k: &Stamp, freq: u64) -> Rate
     requires low { 1000000 ≤ freq }
@@ -71,15 +40,15 @@ fn pair_rate(last: &mut Option<PairRate>, j: &Stamp, k: &Stamp, freq: u64) -> Ra
     ensures order { IsRate freq result }
     ensures bound { result.high < 2 ^ 45 }
 {
+    let between = between(j, k, freq);
     if let Some(kept) = last.as_ref() {
-        if kept.is_of(j, k, freq) {
+        if kept.freq == freq && is_same(&kept.between, &between) {
             return kept.rate;
         }
     }
-    let rate = of_pair(j, k, freq);
+    let rate = of_interval(&between, freq);
     *last = Some(PairRate {
-        first: *j,
-        second: *k,
+        between,
         freq,
         rate,
     });

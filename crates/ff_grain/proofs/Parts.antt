@@ -16,3 +16,7 @@ ceil_by_parts n p d h =
 pub ceil_by_digits : (n : ℕ) → (n + (1000000000000 - 1)) / 2 ^ 12 / 2 ^ 36 / 244140625 * 2 ^ 36
     + ((n + (1000000000000 - 1)) / 2 ^ 12 / 2 ^ 36 % 244140625 * 2 ^ 36 + (n + (1000000000000 - 1)) / 2 ^ 12 % 2 ^ 36) / 244140625 ≡ div_ceil n 1000000000000
 ceil_by_digits n = omega arith
+
+-- the grains of nanoseconds: each has 18446744073 whole ones, and 709551616 parts of 10^9 of one more
+pub grains_by_nanos : (n : ℕ) → n * 18446744073 + n * 709551616 / 1000000000 ≡ n * 2 ^ 64 / 1000000000
+grains_by_nanos n = omega arith

@@ -122,7 +122,7 @@ pub fn grains_of(t: Bintime) -> u128
     ensures value { result ≡ grains_of t }
     ensures bound { result < 2 ^ 96 }
 {
-    u128::from(t.sec.unsigned_abs()) * SECOND as u128 + u128::from(t.frac)
+    u128::from(t.sec as u64) * SECOND as u128 + u128::from(t.frac)
 }
 
 /// The time that `delta` counts take at a period of `period` grains per count, exactly.
@@ -138,18 +138,28 @@ pub fn convert_delta(delta: u64, period: u64) -> Bintime
     Bintime::of_grains(grains as i128)
 }
 
+/// The whole grains of a nanosecond.
+const GRAINS_OF_NANO: u64 = 18_446_744_073;
+
+/// What a nanosecond has above its whole grains, in parts of 10^9 of a grain.
+const PART_OF_NANO: u64 = 709_551_616;
+
 /// So many seconds and nanoseconds, rounded down to a whole grain.
 ///
 /// Seconds are below 2^63 and nanoseconds below 10^9.
+// It is a call of its own: in place it would take registers from the readers of lines.
+#[inline(never)]
+#[tactic(auto, using(crate::proofs::Parts::grains_by_nanos))]
 pub fn from_nanos(sec: u64, nanos: u32) -> Bintime
     requires sec { sec < 2 ^ 63 }
     requires nanos { nanos < 1000000000 }
     ensures { result ≡ of_nanos sec nanos }
 {
-    let frac = (u128::from(nanos) << 64) / NANOS;
+    let nanos = u64::from(nanos);
+    let part = nanos * PART_OF_NANO / 1_000_000_000;
     Bintime {
         sec: sec as i64,
-        frac: frac as u64,
+        frac: nanos * GRAINS_OF_NANO + part,
     }
 }
 

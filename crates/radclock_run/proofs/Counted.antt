@@ -1,5 +1,5 @@
 -- How many stamps of a file are accepted, and how many items are refused.
-use Rattle.std.proofs.Common.{◌≡◌, ℕ, ◌+◌, ◌&&◌, Bool, List, [], ◌∷◌, length, Option, None, Result, Ok, Err, is_ok, cond, refl, ap, ap₂, ◌∙◌, arith, append-nil}
+use Rattle.std.proofs.Common.{◌≡◌, ℕ, ◌+◌, ◌&&◌, Bool, List, [], ◌∷◌, length, Option, option_map, None, Some, Result, Ok, Err, is_ok, cond, refl, ap, ◌∙◌, arith, append-nil}
 use Rattle.std.specs.List.{count_by}
 use Rattle.std.proofs.lemmas.List.{length_push, length-map}
 use Rattle.std.proofs.lemmas.List.Sums.{sum_by-cons}
@@ -12,12 +12,14 @@ use Rattle.stamp_text.proofs.PastLaws.{stamps-push}
 use Rattle.ff_estimator.specs.Events.{events_of, fulls_of, without_leaps}
 use Rattle.ff_estimator.specs.declared.fulls.Event.{Event}
 use Rattle.ff_estimator.specs.declared.fulls.Event.TheVariants as event
+use Rattle.ff_hands.specs.declared.hands.Hands.{Hands}
+use Rattle.callouts.specs.Firings.{asked_timers, firing_list, firings}
 use Rattle.radclock_run.specs.Gathered.{is_estimate}
 use Rattle.ff_estimator.proofs.Events.{fold-told}
 use Rattle.ff_estimator.proofs.Folds.{length-fold_of}
 use Rattle.radclock_run.specs.declared.inputs.ItemLine.{ItemLine}
 use Rattle.radclock_run.specs.Inputs.{accepted_among}
-use Rattle.radclock_run.specs.Reports.{Outcome, outcome_of, outcomes, end_counts, is_stamp, is_taken, refused_in}
+use Rattle.radclock_run.specs.Reports.{Outcome, outcome_of, outcomes, ticks_counts, is_stamp, is_taken, refused_in}
 use Rattle.radclock_run.proofs.Progress.{answer_to}
 
 -- the first of outcomes in their count
@@ -74,6 +76,13 @@ pub said-count : (freq : ℕ) (items : List ItemLine) (events : List Event) → 
 said-count freq items events is = estimates-are events ∙ fulls-count freq items events is
 
 -- what an end counts
-pub ends-so : (q : List Outcome) (accepted refused : ℕ) (ticks : Option ℕ) → accepted ≡ count_by is_taken q → refused ≡ refused_in q
-    → record { accepted = accepted; refused = refused; ticks = ticks; entries = None } ≡ end_counts q ticks
-ends-so q accepted refused ticks a r = ap₂ (λ a r. record { accepted = a; refused = r; ticks = ticks; entries = None }) a r
+pub ends-so : (timers : Option ℕ) (q : List Outcome) (hs : List Hands) (fired accepted refused : ℕ)
+    → fired ≡ length (firing_list 0 (firings (asked_timers timers) hs)) → accepted ≡ count_by is_taken q → refused ≡ refused_in q
+    → record {
+      accepted = accepted;
+      refused = refused;
+      ticks = Some (length hs);
+      entries = None;
+      fired = option_map (λ _. fired) timers;
+    } ≡ ticks_counts timers q hs
+ends-so timers q hs fired accepted refused f a r = rw (f, a, r) refl

@@ -77,8 +77,8 @@ pub leaves-by : (r : Report) (text : List ℕ) (told : Option Deviation) (old ne
 leaves-by report.Stamps text told old new line holds = holds
 leaves-by report.Rtt text told old new line holds = holds
 leaves-by report.Estimate text told old new line holds = holds
-leaves-by (report.Ticks ticks) text told old new line holds = holds
-leaves-by (report.Replay ticks readers reads back crank utc) text told old new line holds = line
+leaves-by (report.Ticks ticks timers) text told old new line holds = holds
+leaves-by (report.Replay ticks readers reads back crank utc lane) text told old new line holds = line
 
 module _ {S : Type 0} (left : S → Option (List ℕ)) (faults : S → ℕ) (pull : PullGives S)
     (consumes : EachRead pull (λ old new r room. ReadConsumes (left old) (left new) r room))
@@ -232,11 +232,11 @@ module _ {S K : Type 0} (left : S → Option (List ℕ)) (pull_faults : S → �
       (done-appends line ran.text ran.told desk'.pen sink sink' ran.due ran.answer ran.wrote out.0 out.1)
 
   -- what a done replay printed and left
-  pub headline-by : (o : Options) (source source' : S) (sink sink' : K) (desk desk' : Desk) (result : Status) → Ran pull writes
-      (Some (command.Report (replay_by o))) source source' sink sink' desk desk' result → result ≡ status.Done
-      → HeadlineInBytes (left source) (left source') (written sink) (written sink') o desk'.pen
-  headline-by o source source' sink sink' desk desk' result ran is =
-      let done = report-done (replay_by o) source source' sink sink' desk desk' result ran is in
+  pub headline-by : (o : Options) (lane : Bool) (source source' : S) (sink sink' : K) (desk desk' : Desk) (result : Status) → Ran pull writes
+      (Some (command.Report (replay_by o lane))) source source' sink sink' desk desk' result → result ≡ status.Done
+      → HeadlineInBytes (left source) (left source') (written sink) (written sink') o lane desk'.pen
+  headline-by o lane source source' sink sink' desk desk' result ran is =
+      let done = report-done (replay_by o lane) source source' sink sink' desk desk' result ran is in
       record { text = done.text; bytes = done.bytes; ended = done.ended; sound = done.sound; printed = done.wrote; replayed = done.leaves }
 
   -- and what a done run over made stamps did

@@ -1,6 +1,7 @@
 pub mod Heads
 pub mod Accepting
 pub mod Admitting
+pub mod Accepted
 pub mod Stopping
 pub mod Gathering
 pub mod Pieces

@@ -23,7 +23,7 @@ use Rattle.replay_run.proofs.Opening.{first-passes, new-many, new-ready}
 use Rattle.replay_run.proofs.Targets.{plan-takes, plan-moves}
 use Rattle.radclock_run.specs.Reports.{log_lines}
 use Rattle.radclock_run.specs.Replays.{logs_of, steps_by, IsReplayed}
-use Rattle.radclock_run.specs.Plays.{entries_in, entries_of, IsPlanFor, IsReadyFor, ArePrinted}
+use Rattle.radclock_run.specs.Plays.{entries_in, entries_of, IsPlanFor, IsReadyFor, ArePrinted, ArePlayed}
 
 -- the lines of logs, as they are printed
 abbrev pub lines_of_logs : ℕ → List ReadLog → List (List ℕ)
@@ -63,16 +63,17 @@ all-entries (es ∷ logs) reads each =
     let e : length (es ∷ logs) ≡ 1 + length logs = omega arith in
     rw e (omega arith)
 
-module _ (freq : ℕ) (options : Options) (all : List Item) (plan : Plan) (before after : List ReadLog) (old new : PenShows)
-    (ready : IsReadyFor freq options all plan before old) (played : Played plan.freq plan.options plan.steps.items before after old new) where
-  -- the play was that of these items
-  play : Played freq options (steps_by freq options.ticks all) before after old new
-  play =
-      let p = ready.plan_is in
-      subst (λ ss. Played freq options ss before after old new) p.steps
-      (subst (λ o. Played freq o plan.steps.items before after old new) p.options_is
-      (subst (λ n. Played n plan.options plan.steps.items before after old new) p.freq_is played))
+-- the play of the plan of items is that of these items
+pub plan-played : (freq : ℕ) (options : Options) (all : List Item) (plan : Plan) (before after : List ReadLog) (old new : PenShows)
+    → IsPlanFor freq options all plan → Played plan.freq plan.options plan.steps.items before after old new
+    → Played freq options (steps_by freq options.ticks all) before after old new
+plan-played freq options all plan before after old new is played =
+    subst (λ ss. Played freq options ss before after old new) is.steps
+    (subst (λ o. Played freq o plan.steps.items before after old new) is.options_is
+    (subst (λ n. Played n plan.options plan.steps.items before after old new) is.freq_is played))
 
+module _ (freq : ℕ) (options : Options) (all : List Item) (steps : ℕ) (before after : List ReadLog) (old new : PenShows)
+    (ready : IsReadyFor options steps before old) (play : Played freq options (steps_by freq options.ticks all) before after old new) where
   all-kept : new.kept ≡ play.kept
   all-kept = play.pen ∙ ap (λ (ks : List Kept). ks ++ play.kept) ready.kept
 
@@ -134,6 +135,9 @@ module _ (freq : ℕ) (options : Options) (all : List Item) (plan : Plan) (befor
         entries = ap (λ n. n * options.reads) (sym readers) ∙ many;
       }
 
+  pub are-played : options.readers ≤ 16 → options.reads ≤ 16384 → ArePlayed options freq all new after
+  are-played few_readers few_reads = record { replayed = replay-left; printed = replay-printed few_readers few_reads }
+
 -- new passes behind a fresh desk are all that were ever made
 first-made : (old mid : PenShows) (passes next : List _) (spare seen n : ℕ) → IsFresh old passes → mid ≡ record old { spare = spare } → next ≡ passes
     ++ new_passes mid.table mid.made seen n → next ≡ new_passes mid.table 0 seen n
@@ -146,22 +150,21 @@ as-many old mid passes next spare seen n fresh reserved made = ap length (first-
     ∙ new-many mid.table 0 seen n
 
 -- all is ready: room was made behind a fresh desk, and then passes, which were given to the logs
-pub ready-for : (freq : ℕ) (options : Options) (all : List Item) (plan : Plan) (logs : List ReadLog) (old mid new : PenShows) (passes next : List _)
-    (spare made : ℕ) → IsFresh old passes → old.kept ≡ [] → IsPlanFor freq options all plan → length plan.steps.items ≤ mid.spare
+pub ready-for : (plan options : Options) (steps : ℕ) (logs : List ReadLog) (old mid new : PenShows) (passes next : List _)
+    (spare made : ℕ) → IsFresh old passes → old.kept ≡ [] → steps ≤ mid.spare
     → mid ≡ record old { spare = spare } → new ≡ record mid { made = made } → next ≡ passes
-    ++ new_passes mid.table mid.made (length mid.journal) plan.options.readers → AreOpened plan.options.reads next logs
-    → IsReadyFor freq options all plan logs new
-ready-for freq options all plan logs old mid new passes next spare made fresh unused is room reserved grown behind opened =
-    let readers = plan.options.readers in
+    ++ new_passes mid.table mid.made (length mid.journal) plan.readers → AreOpened plan.reads next logs → plan ≡ options
+    → IsReadyFor options steps logs new
+ready-for plan options steps logs old mid new passes next spare made fresh unused room reserved grown behind opened same =
+    let readers = plan.readers in
     let seen = length mid.journal in
     let first = first-made old mid passes next spare seen readers fresh reserved behind in
-    let ready = new-ready mid.table seen readers plan.options.reads logs (subst (λ ps. AreOpened plan.options.reads ps logs) first opened) in
+    let ready = new-ready mid.table seen readers plan.reads logs (subst (λ ps. AreOpened plan.reads ps logs) first opened) in
     record {
-      plan_is = is;
       logs_are = subst (λ id. AreReady id options.reads logs) (sym (ap (λ (p : PenShows). p.table) grown))
-          (subst (λ (o : Options). AreReady mid.table o.reads logs) is.options_is ready);
-      many = opened.many ∙ as-many old mid passes next spare seen readers fresh reserved behind ∙ ap (λ (o : Options). o.readers) is.options_is;
-      spare = subst (λ n. length plan.steps.items ≤ n) (sym (ap (λ (p : PenShows). p.spare) grown)) room;
+          (subst (λ (o : Options). AreReady mid.table o.reads logs) same ready);
+      many = opened.many ∙ as-many old mid passes next spare seen readers fresh reserved behind ∙ ap (λ (o : Options). o.readers) same;
+      spare = subst (λ n. steps ≤ n) (sym (ap (λ (p : PenShows). p.spare) grown)) room;
       journal = ap (λ (p : PenShows). p.journal) grown ∙ ap (λ (p : PenShows). p.journal) reserved ∙ fresh.journal;
       top = ap (λ (p : PenShows). p.top) grown ∙ ap (λ (p : PenShows). p.top) reserved ∙ fresh.top;
       still = ap (λ (p : PenShows). p.out) grown ∙ ap (λ (p : PenShows). p.out) reserved ∙ fresh.home;

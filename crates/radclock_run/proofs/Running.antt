@@ -34,16 +34,16 @@ leaves-headline : (r : Report) (text : List ℕ) (told : Option Deviation) (old 
 leaves-headline report.Stamps text told old new leaves = tt
 leaves-headline report.Rtt text told old new leaves = tt
 leaves-headline report.Estimate text told old new leaves = tt
-leaves-headline (report.Ticks ticks) text told old new leaves = tt
-leaves-headline (report.Replay ticks readers reads back crank utc) text told old new leaves = leaves
+leaves-headline (report.Ticks ticks timers) text told old new leaves = tt
+leaves-headline (report.Replay ticks readers reads back crank utc lane) text told old new leaves = leaves
 
 leaves-holds : (r : Report) (text : List ℕ) (old new : Desk) → Leaves r (freq_of_file text) (items_of_file text) old new
     → HoldsDone (Some (command.Report r)) old new
 leaves-holds report.Stamps text old new leaves = leaves
 leaves-holds report.Rtt text old new leaves = leaves
 leaves-holds report.Estimate text old new leaves = leaves
-leaves-holds (report.Ticks ticks) text old new leaves = leaves
-leaves-holds (report.Replay ticks readers reads back crank utc) text old new leaves = tt
+leaves-holds (report.Ticks ticks timers) text old new leaves = leaves
+leaves-holds (report.Replay ticks readers reads back crank utc lane) text old new leaves = tt
 
 -- the line of a stop is that of its status
 stopped-lines : (s : Stop) (asked : Option Command) (text : List ℕ) (told : Option Deviation) (pen : PenShows) → IsTaken s text

@@ -1,5 +1,5 @@
 -- A report by items, whose lines are told one by one, is that by the lists of all that is told.
-use Rattle.std.proofs.Common.{◌≡◌, ℕ, ◌<◌, List, [], ◌∷◌, ◌++◌, None, Some, Result, Ok, Err, length, slice_get, map, refl, sym, ap, ap₂, ◌∙◌, arith, append_assoc, append-nil, length-append}
+use Rattle.std.proofs.Common.{Bool, ◌≡◌, ℕ, ◌<◌, List, [], ◌∷◌, ◌++◌, None, Some, Result, Ok, Err, length, slice_get, map, refl, sym, ap, ap₂, ◌∙◌, arith, append_assoc, append-nil, length-append}
 use Rattle.std.specs.List.{range_with_len}
 use Rattle.std.specs.Option.{option_map_or, option_to_list}
 use Rattle.std.proofs.Math.Seq.{get_or-append_seam}
@@ -168,15 +168,15 @@ estimate-by-list h xs =
     (λ front s rest is. sym (of-nth (λ f. estimate_text (length (stamps_of front)) f h.version) (fulls_of (events_of h.freq all))
     (length (stamps_of front)) _ (full-at h.freq all front s rest is)))
 
-pub replay-by-list : (h : Head) (o : Options) (xs : List ItemLine) (ticks : List Hands) (logs : List (List Entry)) → replay_told (replay_head h o)
-    (estimate_says h) (outcomes h.freq [] xs) ticks logs ≡ replay_report h o (outcomes h.freq [] xs)
+pub replay-by-list : (h : Head) (o : Options) (lane : Bool) (xs : List ItemLine) (ticks : List Hands) (logs : List (List Entry)) → replay_told (replay_head h o lane)
+    (estimate_says h) (outcomes h.freq [] xs) ticks logs ≡ replay_report h o lane (outcomes h.freq [] xs)
     (fulls_of (events_of h.freq (accepted_among h.freq [] xs))) ticks logs
 unfolding replay_told replay_report
-replay-by-list h o xs ticks logs =
+replay-by-list h o lane xs ticks logs =
     let all = accepted_among h.freq [] xs in
     let q = outcomes h.freq [] xs in
     let told = told-lines (estimate_says h) (λ n s. of_nth (λ f. estimate_text n f h.version) (fulls_of (events_of h.freq all)) n) h.freq [] xs
     (λ front s rest is. sym (of-nth (λ f. estimate_text (length (stamps_of front)) f h.version) (fulls_of (events_of h.freq all))
     (length (stamps_of front)) _ (full-at h.freq all front s rest is))) in
-    ap (λ (ls : List (List ℕ)). (((head_text (replay_head h o) ∷ ls) ++ tick_lines 0 ticks) ++ log_lines 0 logs)
+    ap (λ (ls : List (List ℕ)). (((head_text (replay_head h o lane) ∷ ls) ++ tick_lines 0 ticks) ++ log_lines 0 logs)
     ++ end_text (replay_counts q ticks logs) ∷ []) told

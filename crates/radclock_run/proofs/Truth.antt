@@ -120,8 +120,8 @@ module _ (w : World) (freq : ℕ) (items : List ItemLine) (ranged : IsRanged fre
   tells-true asked.Stamps old new leaves = tt
   tells-true asked.Rtt old new leaves = tt
   tells-true asked.Estimate old new leaves = all-true w freq (accepted_among freq [] items) ranged.low ranged.high fit accepted lie
-  tells-true (asked.Ticks ticks) old new leaves = plays-true freq ticks w (accepted_among freq [] items) ranged.low ranged.high fit accepted lie
-  tells-true (asked.Replay ticks readers reads back crank utc) old new leaves =
+  tells-true (asked.Ticks ticks timers) old new leaves = plays-true freq ticks w (accepted_among freq [] items) ranged.low ranged.high fit accepted lie
+  tells-true (asked.Replay ticks readers reads back crank utc lane) old new leaves =
       replay-true w _ freq (accepted_among freq [] items) new.pen ranged.low ranged.high fit accepted lie leaves
 
 -- what a report on a text in the grammar tells

@@ -1,5 +1,5 @@
 -- How the parts of a run end: with the lines of a report, or of a fault.
-use Rattle.std.specs.Prelude.{◌≡◌, ℕ, ◌⊎◌, List, [], ◌∷◌, Option, Result}
+use Rattle.std.specs.Prelude.{◌≡◌, ℕ, ◌⊎◌, Bool, List, [], ◌∷◌, Option, Result}
 use Rattle.rad_io.specs.Pushes.{Wrote, Broke}
 use Rattle.rad_io.specs.declared.Failed.{Failed}
 use Rattle.report_text.specs.Text.{fault_text}
@@ -26,8 +26,8 @@ abbrev pub Leaves : Report → ℕ → List ItemLine → Desk → Desk → Type 
 Leaves asked.Stamps freq items old new = new ≡ old
 Leaves asked.Rtt freq items old new = new ≡ old
 Leaves asked.Estimate freq items old new = new ≡ old
-Leaves (asked.Ticks ticks) freq items old new = new ≡ old
-Leaves (asked.Replay ticks readers reads back crank utc) freq items old new =
+Leaves (asked.Ticks ticks timers) freq items old new = new ≡ old
+Leaves (asked.Replay ticks readers reads back crank utc lane) freq items old new =
     IsReplayed (record { ticks = ticks; readers = readers; reads = reads; back = back; crank = crank; utc = utc }) freq (accepted_among freq [] items) new.pen
 
 -- what a stop leaves of it. Memory may be wanting where passes were made already, but no tick
@@ -58,6 +58,6 @@ Summarises written faults push a old desk result new desk' =
     ((told : Option Deviation) × IsRunOf a told desk'.pen × EndsWith written faults push old (run_text a told desk'.pen) status.Done result new)
     ⊎ (LeavesAt stop.Memory desk desk' × EndsWith written faults push old (fault_text fault.Memory ∷ []) status.NoMemory result new)
 
--- the report on a replay by these options
-abbrev pub replay_by : Options → Report
-replay_by o = asked.Replay o.ticks o.readers o.reads o.back o.crank o.utc
+-- the report on a replay by these options, over a lane or without one
+abbrev pub replay_by : Options → Bool → Report
+replay_by o lane = asked.Replay o.ticks o.readers o.reads o.back o.crank o.utc lane

@@ -1,5 +1,5 @@
 -- What follows of a run in bytes and in counts of faults, where the source and the sink tell them.
-use Rattle.std.specs.Prelude.{◌≡◌, ℕ, ◌-◌, ◌^◌, ◌<◌, ◌≤◌, true, List, [], length, Option, None, Some}
+use Rattle.std.specs.Prelude.{◌≡◌, ℕ, ◌-◌, ◌^◌, ◌<◌, ◌≤◌, Bool, true, List, [], length, Option, None, Some}
 use Rattle.std.specs.List.{All, concat}
 use Rattle.std.specs.Io.KnownBytes.{Appends, Consumes, IsAtEnd}
 use Rattle.stamp_text.specs.Grammar.{fault_of_file}
@@ -48,14 +48,14 @@ pub data WasDone (left left' written written' : Option (List ℕ)) (desk desk' :
       → Appends written written' (concat (run_text a told desk'.pen)) → WasDone left left' written written' desk desk' asked
 
 -- What a replay printed and left
-pub record HeadlineInBytes (left left' written written' : Option (List ℕ)) (options : Options) (pen : PenShows) : Type 0 where
+pub record HeadlineInBytes (left left' written written' : Option (List ℕ)) (options : Options) (lane : Bool) (pen : PenShows) : Type 0 where
   -- the input was read to its end, and its text is in the grammar
   pub text : List ℕ
   pub bytes : Consumes left left' text
   pub ended : IsAtEnd left'
   pub sound : fault_of_file text ≡ None
   -- what was appended is the report on it, with the pen's own journal, and the logs that it took in
-  pub printed : Appends written written' (concat (report_of (replay_by options) (head_of_file text) (items_of_file text) pen))
+  pub printed : Appends written written' (concat (report_of (replay_by options lane) (head_of_file text) (items_of_file text) pen))
   -- these are what a replay of the accepted items makes
   pub replayed : IsReplayed options (freq_of_file text) (accepted_among (freq_of_file text) [] (items_of_file text)) pen
 

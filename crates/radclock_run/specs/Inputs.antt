@@ -37,8 +37,8 @@ abbrev pub takes_few : Report → Bool
 takes_few report.Stamps = false
 takes_few report.Rtt = false
 takes_few report.Estimate = false
-takes_few (report.Ticks ticks) = true
-takes_few (report.Replay ticks readers reads back crank utc) = true
+takes_few (report.Ticks ticks timers) = true
+takes_few (report.Replay ticks readers reads back crank utc lane) = true
 
 -- the items among lines, each with the number of its line
 abbrev pub items_in : List Line → List ItemLine

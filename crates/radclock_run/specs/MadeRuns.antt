@@ -44,7 +44,7 @@ summary_of fulls = record {
 
 -- what its end counts
 abbrev pub run_counts : List Full → List Hands → ℕ → EndCounts
-run_counts fulls ticks entries = record { accepted = length fulls; refused = 0; ticks = Some (length ticks); entries = Some entries }
+run_counts fulls ticks entries = record { accepted = length fulls; refused = 0; ticks = Some (length ticks); entries = Some entries; fired = None }
 
 -- its head
 abbrev pub run_head : Asked → ReportHead

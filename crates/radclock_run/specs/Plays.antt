@@ -10,7 +10,7 @@ use Rattle.replay_run.specs.Logs.{AreReady}
 use Rattle.replay_run.specs.declared.log.ReadLog.{ReadLog}
 use Rattle.replay_run.specs.declared.plan.Options.{Options}
 use Rattle.replay_run.specs.declared.plan.Plan.{Plan}
-use Rattle.radclock_run.specs.Replays.{logs_of, steps_by}
+use Rattle.radclock_run.specs.Replays.{IsReplayed, logs_of, steps_by}
 
 -- how many entries stand in logs
 abbrev pub entries_in : List (List Entry) → ℕ
@@ -24,12 +24,11 @@ pub record IsPlanFor (freq : ℕ) (options : Options) (all : List Item) (p : Pla
   pub steps : p.steps.items ≡ steps_by freq options.ticks all
   pub fits : PlanFits 0 0 p.steps.items
 
--- all that a play wants is there
-pub record IsReadyFor (freq : ℕ) (options : Options) (all : List Item) (plan : Plan) (logs : List ReadLog) (pen : PenShows) : Type 0 where
-  pub plan_is : IsPlanFor freq options all plan
+-- all that a play of so many steps wants of logs and a pen is there
+pub record IsReadyFor (options : Options) (steps : ℕ) (logs : List ReadLog) (pen : PenShows) : Type 0 where
   pub logs_are : AreReady pen.table options.reads logs
   pub many : length logs ≡ options.readers
-  pub spare : length plan.steps.items ≤ pen.spare
+  pub spare : steps ≤ pen.spare
   pub journal : pen.journal ≡ cold ∷ []
   pub top : pen.top ≡ 0
   pub still : pen.out ≡ false
@@ -45,3 +44,8 @@ pub record ArePrinted (options : Options) (pen : PenShows) (logs : List ReadLog)
   pub few : length logs < 2 ^ 32
   pub short : All (λ (l : ReadLog). length l.entries.items < 2 ^ 32) logs
   pub entries : options.readers * options.reads ≡ entries_in (entries_of logs)
+
+-- accepted items were played: their replay is what a pen shows, and these logs have the entries that it keeps
+pub record ArePlayed (options : Options) (freq : ℕ) (all : List Item) (pen : PenShows) (logs : List ReadLog) : Type 0 where
+  pub replayed : IsReplayed options freq all pen
+  pub printed : ArePrinted options pen logs

@@ -101,8 +101,8 @@ abbrev pub TellsTrue : World → Report → ℕ → List Item → PenShows → T
 TellsTrue w asked.Stamps freq all pen = ⊤
 TellsTrue w asked.Rtt freq all pen = ⊤
 TellsTrue w asked.Estimate freq all pen = All (IsTrueEstimate w) (fulls_of (events_of freq all))
-TellsTrue w (asked.Ticks ticks) freq all pen = AreTrueTicks w (journal_of (steps_by freq ticks all))
-TellsTrue w (asked.Replay ticks readers reads back crank utc) freq all pen = IsTrueReplay w freq all pen
+TellsTrue w (asked.Ticks ticks timers) freq all pen = AreTrueTicks w (journal_of (steps_by freq ticks all))
+TellsTrue w (asked.Replay ticks readers reads back crank utc lane) freq all pen = IsTrueReplay w freq all pen
 
 -- how a run over made stamps is replayed
 abbrev pub run_options : Options

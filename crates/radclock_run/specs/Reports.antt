@@ -1,5 +1,5 @@
 -- What becomes of the stamps of a file, and the report on them.
-use Rattle.std.specs.Prelude.{ℕ, ◌+◌, Bool, true, false, ◌&&◌, List, [], ◌∷◌, ◌++◌, length, map, slice_get, count_by, is_ok, is_err, Option, None, Some, Result, Ok, Err, if◌then◌else◌}
+use Rattle.std.specs.Prelude.{ℕ, ◌+◌, Bool, true, false, ◌&&◌, List, [], ◌∷◌, ◌++◌, length, map, slice_get, count_by, is_ok, is_err, option_map, Option, None, Some, Result, Ok, Err, if◌then◌else◌}
 use Rattle.std.specs.List.{range_with_len}
 use Rattle.std.specs.Option.{option_map_or}
 use Rattle.stamp_text.specs.Accepted.{accepted_with, trip}
@@ -17,7 +17,9 @@ use Rattle.ff_hands.specs.declared.hands.Hands.{Hands}
 use Rattle.clock_lines.specs.declared.readings.Entry.{Entry}
 use Rattle.tick_desk.specs.Shows.{PenShows}
 use Rattle.replay_run.specs.declared.plan.Options.{Options}
-use Rattle.report_text.specs.Text.{head_text, end_text, stamp_text, base_text, estimate_text, set_text, leap_text, tick_text, entry_text, refused_text}
+use Rattle.callouts.specs.declared.firings.Firing.{Firing}
+use Rattle.callouts.specs.Firings.{asked_timers, fired_at, firing_list, firings}
+use Rattle.report_text.specs.Text.{head_text, end_text, stamp_text, base_text, estimate_text, set_text, leap_text, tick_text, fire_text, entry_text, refused_text}
 use Rattle.report_text.specs.declared.lines.EndCounts.{EndCounts}
 use Rattle.report_text.specs.declared.lines.ReportHead.{ReportHead}
 use Rattle.report_text.specs.declared.lines.ReportHead.TheVariants as head
@@ -78,7 +80,7 @@ refused_in q = count_by (λ o. is_err o.answer) q
 
 -- how many stamps were accepted, how many items were refused, and how many ticks there are
 abbrev pub end_counts : List Outcome → Option ℕ → EndCounts
-end_counts q ticks = record { accepted = count_by is_taken q; refused = refused_in q; ticks = ticks; entries = None }
+end_counts q ticks = record { accepted = count_by is_taken q; refused = refused_in q; ticks = ticks; entries = None; fired = None }
 
 -- a report: its head, a line for each outcome, and how many were accepted and refused
 unfoldable pub stamp_report : ReportHead → (ℕ → Stamp → List ℕ) → List Outcome → List (List ℕ)
@@ -101,13 +103,33 @@ abbrev pub tick_lines : ℕ → List Hands → List (List ℕ)
 tick_lines n [] = []
 tick_lines n (h ∷ hs) = tick_text n h ∷ tick_lines (n + 1) hs
 
--- a report on a journal: its head, a line for each tick, and its end
-unfoldable pub ticks_text : ReportHead → List Hands → EndCounts → List (List ℕ)
-ticks_text head hs counts = (head_text head ∷ tick_lines 0 hs) ++ end_text counts ∷ []
+-- the lines of timers that fire
+abbrev pub fire_lines : List Firing → List (List ℕ)
+fire_lines [] = []
+fire_lines (f ∷ fs) = fire_text f.tick f.fired ∷ fire_lines fs
 
--- the command `ticks` tells each tick, and of the stamps how many were accepted and refused
-abbrev pub ticks_report : Head → ℕ → List Outcome → List Hands → List (List ℕ)
-ticks_report h ticks q hs = ticks_text (head.Ticks h.freq ticks h.version) hs (end_counts q (Some (length hs)))
+-- the lines of ticks, numbered from n on, and behind each those of the timers that fire at it
+abbrev pub timed_lines : (ℕ → List Firing) → ℕ → List Hands → List (List ℕ)
+timed_lines fires n [] = []
+timed_lines fires n (h ∷ hs) = (tick_text n h ∷ fire_lines (fires n)) ++ timed_lines fires (n + 1) hs
+
+-- a report on a journal: its head, a line for each tick with those of its timers, and its end
+unfoldable pub ticks_text : ReportHead → (ℕ → List Firing) → List Hands → EndCounts → List (List ℕ)
+ticks_text head fires hs counts = (head_text head ∷ timed_lines fires 0 hs) ++ end_text counts ∷ []
+
+-- how many timers fire at the ticks of a journal, if they are asked for
+abbrev pub fired_in : Option ℕ → List Hands → Option ℕ
+fired_in timers hs = option_map (λ _. length (firing_list 0 (firings (asked_timers timers) hs))) timers
+
+-- what the end of that report counts: the stamps and refused items, the ticks, and the timers that fire
+abbrev pub ticks_counts : Option ℕ → List Outcome → List Hands → EndCounts
+ticks_counts timers q hs = record (end_counts q (Some (length hs))) { fired = fired_in timers hs }
+
+-- the command `ticks` tells each tick and the timers that fire at it, and of the stamps how many were accepted and
+-- refused
+abbrev pub ticks_report : Head → ℕ → Option ℕ → List Outcome → List Hands → List (List ℕ)
+ticks_report h ticks timers q hs = ticks_text (head.Ticks h.freq ticks timers h.version) (fired_at (firings (asked_timers timers) hs)) hs
+    (ticks_counts timers q hs)
 
 -- the bases of accepted stamps
 unfoldable pub bases_of : ℕ → List Stamp → List Base
@@ -124,8 +146,8 @@ log_lines reader [] = []
 log_lines reader (es ∷ logs) = entry_lines reader 0 es ++ log_lines (reader + 1) logs
 
 -- the head of a report on a replay
-abbrev pub replay_head : Head → Options → ReportHead
-replay_head h o = head.Replay h.freq o.ticks o.readers o.reads o.back o.crank o.utc h.version
+abbrev pub replay_head : Head → Options → Bool → ReportHead
+replay_head h o lane = head.Replay h.freq o.ticks o.readers o.reads o.back o.crank o.utc lane h.version
 
 -- what its end counts: the stamps and refused items, the ticks, and the entries of all logs
 abbrev pub replay_counts : List Outcome → List Hands → List (List Entry) → EndCounts
@@ -133,9 +155,9 @@ replay_counts q ticks logs = record (end_counts q (Some (length ticks))) { entri
 
 -- the command `replay` tells of each accepted stamp its estimate, of these, then each tick, then each
 -- reader's entries
-unfoldable pub replay_report : Head → Options → List Outcome → List Full → List Hands → List (List Entry) → List (List ℕ)
-replay_report h o q fulls ticks logs =
-    (((head_text (replay_head h o) ∷ lines_of (λ i s. of_nth (λ f. estimate_text i f h.version) fulls i) 0 q) ++ tick_lines 0 ticks) ++ log_lines 0 logs)
+unfoldable pub replay_report : Head → Options → Bool → List Outcome → List Full → List Hands → List (List Entry) → List (List ℕ)
+replay_report h o lane q fulls ticks logs =
+    (((head_text (replay_head h o lane) ∷ lines_of (λ i s. of_nth (λ f. estimate_text i f h.version) fulls i) 0 q) ++ tick_lines 0 ticks) ++ log_lines 0 logs)
     ++ end_text (replay_counts q ticks logs) ∷ []
 
 -- the report that is asked for, on a file. Only that on a replay tells of a pen: of its journal, and of
@@ -144,7 +166,7 @@ unfoldable pub report_of : Report → Head → List ItemLine → PenShows → Li
 report_of asked.Stamps h items pen = stamps_report h (outcomes h.freq [] items) (stamps_of (accepted_among h.freq [] items))
 report_of asked.Rtt h items pen = rtt_report h (outcomes h.freq [] items) (bases_of h.freq (stamps_of (accepted_among h.freq [] items)))
 report_of asked.Estimate h items pen = estimate_report h (outcomes h.freq [] items) (fulls_of (events_of h.freq (accepted_among h.freq [] items)))
-report_of (asked.Ticks ticks) h items pen = ticks_report h ticks (outcomes h.freq [] items) (played_by h.freq ticks items)
-report_of (asked.Replay ticks readers reads back crank utc) h items pen =
-    replay_report h (record { ticks = ticks; readers = readers; reads = reads; back = back; crank = crank; utc = utc }) (outcomes h.freq [] items)
-    (fulls_of (events_of h.freq (accepted_among h.freq [] items))) pen.journal (logs_of pen)
+report_of (asked.Ticks ticks timers) h items pen = ticks_report h ticks timers (outcomes h.freq [] items) (played_by h.freq ticks items)
+report_of (asked.Replay ticks readers reads back crank utc lane) h items pen =
+    replay_report h (record { ticks = ticks; readers = readers; reads = reads; back = back; crank = crank; utc = utc }) lane
+    (outcomes h.freq [] items) (fulls_of (events_of h.freq (accepted_among h.freq [] items))) pen.journal (logs_of pen)

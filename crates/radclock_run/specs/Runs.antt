@@ -145,8 +145,8 @@ Headline None text told pen = ⊤
 Headline (Some (command.Report report.Stamps)) text told pen = ⊤
 Headline (Some (command.Report report.Rtt)) text told pen = ⊤
 Headline (Some (command.Report report.Estimate)) text told pen = ⊤
-Headline (Some (command.Report (report.Ticks ticks))) text told pen = ⊤
-Headline (Some (command.Report (report.Replay ticks readers reads back crank utc))) text told pen =
+Headline (Some (command.Report (report.Ticks ticks timers))) text told pen = ⊤
+Headline (Some (command.Report (report.Replay ticks readers reads back crank utc lane))) text told pen =
     IsReplayed (record { ticks = ticks; readers = readers; reads = reads; back = back; crank = crank; utc = utc }) (freq_of_file text)
     (accepted_of_file text) pen
 Headline (Some (command.Make number count)) text told pen = ⊤
@@ -167,8 +167,8 @@ HoldsDone None old new = new ≡ old
 HoldsDone (Some (command.Report report.Stamps)) old new = new ≡ old
 HoldsDone (Some (command.Report report.Rtt)) old new = new ≡ old
 HoldsDone (Some (command.Report report.Estimate)) old new = new ≡ old
-HoldsDone (Some (command.Report (report.Ticks ticks))) old new = new ≡ old
-HoldsDone (Some (command.Report (report.Replay ticks readers reads back crank utc))) old new = ⊤
+HoldsDone (Some (command.Report (report.Ticks ticks timers))) old new = new ≡ old
+HoldsDone (Some (command.Report (report.Replay ticks readers reads back crank utc lane))) old new = ⊤
 HoldsDone (Some (command.Make number count)) old new = new ≡ old
 HoldsDone (Some (command.Run number count ideal)) old new = ⊤
 

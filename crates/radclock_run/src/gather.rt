@@ -5,15 +5,15 @@ ghost use Rattle.stamp_text.specs.Past.{accept_item};
 ghost use Rattle.stamp_text.specs.declared.lines.Item.{Item};
 ghost use Rattle.stamp_text.specs.declared.lines.Item.TheVariants as item;
 ghost use Rattle.world_times.specs.Worlds.{LiesIn};
-ghost use Rattle.radclock_run.specs.Inputs.{IsRanged};
+ghost use Rattle.radclock_run.specs.Inputs.{IsRanged, accepted_among};
 ghost use Rattle.radclock_run.specs.Gathered.{AreEvents, Gathered, IsGathered};
 ghost use Rattle.radclock_run.specs.Reports.{outcomes, refused_in};
 
-use crate::inputs::StampFile;
+use crate::inputs::{StampFile, accept_item};
 use ff_estimator::{Daemon, Event, Fed};
 use ff_grain::NoMemory;
 use ideal_world::{Judged, Watched};
-use stamp_text::{Item, Stamp};
+use stamp_text::{Item, Past, Stamp};
 use std::alloc::Global;
 use std::sync::ledger::Ledger;
 use step_count::Steps;
@@ -108,4 +108,21 @@ pub fn said_by<L: Ledger>(
         refused += refusals(accepted);
     }
     Ok(Said { events, refused })
+}
+
+/// The accepted items of a file, in their order. Want of memory is the only error.
+pub fn accepted_items(alloc: Global, file: &StampFile) -> Result<Vec<Item>, NoMemory>
+    requires ranged { IsRanged file.now.head.freq file.now.items.items }
+    ensures { IfOk result (λ items. items.items ≡
+        accepted_among file.now.head.freq [] file.now.items.items) }
+{
+    let mut past = Past::new();
+    let mut items = Vec::new(alloc);
+    for x in &file.items {
+        match accept_item(&mut past, &x.item, file.head.freq) {
+            Ok(()) => items.push(x.item)?,
+            Err(_) => {}
+        }
+    }
+    Ok(items)
 }

@@ -1,5 +1,5 @@
 // What follows of a run in bytes and in counts of faults.
-ghost use Rattle.std.specs.Prelude.{◌≡◌, ◌⊎◌, ℕ, List, [], ◌∷◌, Option, None, Some};
+ghost use Rattle.std.specs.Prelude.{◌≡◌, ◌⊎◌, ℕ, List, [], ◌∷◌, Option, None, Some, Bool};
 ghost use Rattle.ff_hands.specs.Windups.{cold};
 ghost use Rattle.clock_words.specs.declared.commands.Command.{Command};
 ghost use Rattle.clock_words.specs.declared.commands.Command.TheVariants as command;
@@ -28,11 +28,11 @@ pub fn lines_tell<S: Source, K: Sink>()
         Ran S.pull_gives (ByLines K.push_gives) asked source source' sink sink' desk desk' result →
         result ≡ Status.Done → WasDone (S.left source) (S.left source') (K.written sink)
         (K.written sink') desk desk' asked }
-    ensures headline { (o : Options) (source source' : S) (sink sink' : K) (desk desk' : Desk)
+    ensures headline { (o : Options) (lane : Bool) (source source' : S) (sink sink' : K) (desk desk' : Desk)
         (result : Status) →
-        Ran S.pull_gives (ByLines K.push_gives) (Some (command.Report (replay_by o))) source source' sink
+        Ran S.pull_gives (ByLines K.push_gives) (Some (command.Report (replay_by o lane))) source source' sink
         sink' desk desk' result → result ≡ Status.Done → HeadlineInBytes (S.left source)
-        (S.left source') (K.written sink) (K.written sink') o desk'.pen }
+        (S.left source') (K.written sink) (K.written sink') o lane desk'.pen }
     ensures summary { (a : Asked) (source source' : S) (sink sink' : K) (desk desk' : Desk)
         (result : Status) →
         Ran S.pull_gives (ByLines K.push_gives) (Some (run_by a)) source source' sink sink' desk desk'
@@ -81,11 +81,11 @@ pub fn blocks_tell<S: Source, K: Sink>()
         Ran S.pull_gives (ByBlocks K.push_gives) asked source source' sink sink' desk desk' result →
         result ≡ Status.Done → WasDone (S.left source) (S.left source') (K.written sink)
         (K.written sink') desk desk' asked }
-    ensures headline { (o : Options) (source source' : S) (sink sink' : K) (desk desk' : Desk)
+    ensures headline { (o : Options) (lane : Bool) (source source' : S) (sink sink' : K) (desk desk' : Desk)
         (result : Status) →
-        Ran S.pull_gives (ByBlocks K.push_gives) (Some (command.Report (replay_by o))) source source' sink
+        Ran S.pull_gives (ByBlocks K.push_gives) (Some (command.Report (replay_by o lane))) source source' sink
         sink' desk desk' result → result ≡ Status.Done → HeadlineInBytes (S.left source)
-        (S.left source') (K.written sink) (K.written sink') o desk'.pen }
+        (S.left source') (K.written sink) (K.written sink') o lane desk'.pen }
     ensures summary { (a : Asked) (source source' : S) (sink sink' : K) (desk desk' : Desk)
         (result : Status) →
         Ran S.pull_gives (ByBlocks K.push_gives) (Some (run_by a)) source source' sink sink' desk desk'

@@ -8,6 +8,7 @@ mod faults;
 mod gather;
 mod inputs;
 mod journal;
+mod lanes;
 mod laws;
 mod listings;
 mod make;

@@ -10,7 +10,7 @@ ghost use Rattle.clock_core.specs.Machines.{newest};
 ghost use Rattle.tick_desk.specs.Shows.{IsFresh};
 ghost use Rattle.radclock_run.specs.MadeRuns.{IsAskedInRange, run_fulls, run_head, summary_of, run_counts, opening_lines, told_lines, closing_lines, run_lines, run_text};
 ghost use Rattle.radclock_run.specs.Replays.{logs_of, run_options, run_items, IsTold};
-ghost use Rattle.radclock_run.specs.Plays.{IsReadyFor, entries_in};
+ghost use Rattle.radclock_run.specs.Plays.{IsPlanFor, IsReadyFor, entries_in};
 ghost use Rattle.radclock_run.specs.Endings.{EndsWith, Summarises};
 
 use crate::faults::refuse;
@@ -117,8 +117,9 @@ fn prepare<L: Ledger>(
 ) -> Result<Ready, NoMemory>
     requires asked { IsAskedInRange asked.now }
     requires fresh { IsFresh desk.old.pen desk.old.passes.items }
-    ensures ready { IfOk result (λ r. IsReadyFor frequency run_options (run_items asked.now)
-        r.plan r.logs.items desk.new.pen) }
+    ensures plan { IfOk result (λ r. IsPlanFor frequency run_options (run_items asked.now) r.plan) }
+    ensures ready { IfOk result (λ r. IsReadyFor run_options (length r.plan.steps.items)
+        r.logs.items desk.new.pen) }
     ensures accepted { IfOk result (λ r. AreAcceptedItems frequency (run_items asked.now)) }
     ensures fulls { IfOk result (λ r. r.fulls.items ≡ run_fulls asked.now) }
     ensures journal { desk.new.pen.journal ≡ desk.old.pen.journal }
@@ -126,7 +127,7 @@ fn prepare<L: Ledger>(
     let events = made_events(alloc, asked, steps)?;
     let fulls = fulls_of(alloc, &events)?;
     let plan = Plan::of(alloc, FREQ, &events, &OPTIONS)?;
-    let logs = open(alloc, desk, &plan)?;
+    let logs = open(alloc, desk, &plan, plan.steps.len())?;
     Ok(Ready { fulls, plan, logs })
 }
 
@@ -231,6 +232,7 @@ fn push_closing<K: Sink>(
         refused: 0,
         ticks: Some(ticks.len() as u64),
         entries: Some(entries),
+        fired: None,
     };
     let mut line = LineText::new();
     estimate_line(

@@ -207,6 +207,7 @@ pub fn push_report<K: Sink, T: Telling>(
         refused: tally.refused,
         ticks: None,
         entries: None,
+        fired: None,
     };
     end_line(sink, &counts)
 }
@@ -240,6 +241,7 @@ pub fn push_replay<K: Sink, T: Telling>(
         refused: tally.refused,
         ticks: Some(ticks.len() as u64),
         entries: Some(entries),
+        fired: None,
     };
     end_line(sink, &counts)
 }

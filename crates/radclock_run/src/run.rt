@@ -1,8 +1,10 @@
 // The top call.
-ghost use Rattle.std.specs.Prelude.{◌≡◌, ◌≤◌, ◌<◌, ◌^◌, [], map};
+ghost use Rattle.std.specs.Prelude.{◌≡◌, ◌≤◌, ◌<◌, ◌^◌, List, [], true, map};
+ghost use Rattle.callouts.specs.Firings.{fired_at, firing_list};
+ghost use Rattle.callouts.specs.declared.timers.Entry.{Entry};
 ghost use Rattle.clock_words.specs.Lines.{IsReportInRange, command_in};
 ghost use Rattle.tick_desk.specs.Shows.{IsFresh};
-ghost use Rattle.radclock_run.specs.Inputs.{IsRanged};
+ghost use Rattle.radclock_run.specs.Inputs.{IsRanged, counted_among, most_accepted, takes_few};
 ghost use Rattle.stamp_maker.specs.MadeStamps.{made_list};
 ghost use Rattle.report_text.specs.MadeFiles.{file_lines_of};
 ghost use Rattle.radclock_run.specs.Reports.{outcomes, ticks_text};
@@ -57,12 +59,20 @@ fn report<K: Sink, T: Telling>(
     }
 }
 
-// Pushes the report on the journal of a clock, and ends.
+// Pushes the report on the journal of a clock and on the timers that fire at its ticks, and ends.
 fn report_ticks<K: Sink>(sink: &mut K, head: &ReportHead, played: &Played) -> Status
-    ensures { EndsWith K.written K.faults K.push_gives sink.old
-        (ticks_text head.now played.now.core.ticks played.now.counts) Status.Done result sink.new }
+    ensures { (ess : List (List Entry)) → played.now.fired.items ≡ firing_list 0 ess →
+        EndsWith K.written K.faults K.push_gives sink.old
+        (ticks_text head.now (fired_at ess) played.now.core.ticks played.now.counts) Status.Done result
+        sink.new }
 {
-    match push_ticks(sink, head, played.core.ticks(), &played.counts) {
+    match push_ticks(
+        sink,
+        head,
+        played.core.ticks(),
+        &played.fired,
+        &played.counts,
+    ) {
         Ok(()) => Status::Done,
         Err(Failed) => Status::WriteFault,
     }
@@ -71,7 +81,7 @@ fn report_ticks<K: Sink>(sink: &mut K, head: &ReportHead, played: &Played) -> St
 // Takes the memory that a report wants, pushes it, and ends. The comparisons of round trips are
 // counted in a ledger of their own, which ends here.
 #[tactic(auto, unfolding(crate::specs::Reports::report_of))]
-fn finish<R: Threads + Sync, K: Sink, G: Gate, L: Ledger>(
+fn finish<R: Threads + Sync, K: Sink, G: Gate, L: Ledger + Send>(
     rt: &R,
     alloc: Global,
     sink: &mut K,
@@ -86,6 +96,8 @@ fn finish<R: Threads + Sync, K: Sink, G: Gate, L: Ledger>(
     requires some { 0 < blank.parts }
     requires asked { IsReportInRange asked }
     requires ranged { IsRanged file.now.head.freq file.now.items.items }
+    requires few { takes_few asked ≡ true →
+        counted_among file.now.head.freq file.now.items.items ≤ most_accepted }
     requires fresh { IsFresh desk.old.pen desk.old.passes.items }
     ensures { Finishes K.written K.faults K.push_gives asked file.now.head file.now.items.items
         sink.old desk.old result sink.new desk.new }
@@ -116,17 +128,20 @@ fn finish<R: Threads + Sync, K: Sink, G: Gate, L: Ledger>(
             }
             Err(NoMemory) => refuse(sink, FaultText::Memory, Status::NoMemory),
         },
-        Report::Ticks { ticks } => match play_file(alloc, file, ticks, &mut steps) {
-            Ok(played) => {
-                let head = ReportHead::Ticks {
-                    freq,
-                    ticks,
-                    version,
-                };
-                report_ticks(sink, &head, &played)
+        Report::Ticks { ticks, timers } => {
+            match play_file(alloc, file, ticks, timers, &mut steps) {
+                Ok(played) => {
+                    let head = ReportHead::Ticks {
+                        freq,
+                        ticks,
+                        timers,
+                        version,
+                    };
+                    report_ticks(sink, &head, &played)
+                }
+                Err(NoMemory) => refuse(sink, FaultText::Memory, Status::NoMemory),
             }
-            Err(NoMemory) => refuse(sink, FaultText::Memory, Status::NoMemory),
-        },
+        }
         Report::Replay {
             ticks,
             readers,
@@ -134,6 +149,7 @@ fn finish<R: Threads + Sync, K: Sink, G: Gate, L: Ledger>(
             back,
             crank,
             utc,
+            lane,
         } => {
             let options = Options {
                 ticks,
@@ -143,7 +159,7 @@ fn finish<R: Threads + Sync, K: Sink, G: Gate, L: Ledger>(
                 crank,
                 utc,
             };
-            replay(rt, alloc, sink, &options, file, steps, desk, gate)
+            replay(rt, alloc, sink, &options, lane, file, steps, desk, gate)
         }
     }
 }

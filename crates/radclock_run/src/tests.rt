@@ -9,6 +9,7 @@ mod ran;
 mod replays;
 mod rows;
 mod second;
+mod timers;
 
 use crate::program::program;
 use crate::run::run;
@@ -284,17 +285,19 @@ fn no_write_follows_one_that_failed(rt: HostRuntime) -> Result<(), Fail> {
 /// How long a thread waits at most, in turns.
 const PATIENCE: u64 = 100_000_000;
 
-// Holds reader 1 before its first attempt until the driver is about to publish tick 4, and the driver there
+// Holds reader 1 before its first attempt until the driver is about to publish some tick, and the driver there
 // until that reader has come. Each notes 1 where it came, and 2 where the other one did too.
 #[derive(Drop)]
 struct Meeting {
+    tick: u64,
     reader: AtomicU64,
     driver: AtomicU64,
 }
 
 impl Meeting {
-    fn new() -> Meeting {
+    fn new(tick: u64) -> Meeting {
         Meeting {
+            tick,
             reader: AtomicU64::new(0),
             driver: AtomicU64::new(0),
         }
@@ -320,7 +323,7 @@ impl Gate for Meeting {
     }
 
     fn between_ticks(&self, next: u64) {
-        if next == 4 {
+        if next == self.tick {
             meet(&self.driver, &self.reader);
         }
     }
@@ -336,7 +339,7 @@ fn is_met(attempt: &Attempt) -> bool {
 
 #[test]
 fn a_reader_and_the_driver_of_a_replay_meet(rt: HostRuntime) -> Result<(), Fail> {
-    let gate = Meeting::new();
+    let gate = Meeting::new(4);
     let words = "replay --ticks 4 --readers 2 --reads 4";
     let (status, told) = played_past(&rt, rt.alloc(), words, INPUT, OUTSIDE, &gate)?;
     assert_eq!(rt; status.code(), 0);
@@ -350,8 +353,23 @@ fn a_reader_and_the_driver_of_a_replay_meet(rt: HostRuntime) -> Result<(), Fail>
 }
 
 #[test]
+fn a_reader_and_the_driver_of_a_replay_over_a_lane_meet(rt: HostRuntime) -> Result<(), Fail> {
+    // No event has to have come for tick 1.
+    let gate = Meeting::new(1);
+    let words = "replay --ticks 4 --readers 2 --reads 4 --lane";
+    let (status, told) = played_past(&rt, rt.alloc(), words, INPUT, OUTSIDE, &gate)?;
+    assert_eq!(rt; status.code(), 0);
+    assert_eq!(rt; gate.reader.load(Ordering::SeqCst), 2);
+    assert_eq!(rt; gate.driver.load(Ordering::SeqCst), 2);
+    let report = report_of(rt.alloc(), &told, usize::MAX)?;
+    assert!(rt; report.asked.lane);
+    assert_eq!(rt; first_wrong(&report), None, "at {told}");
+    Ok(())
+}
+
+#[test]
 fn a_reader_and_the_driver_of_a_run_over_made_stamps_meet(rt: HostRuntime) -> Result<(), Fail> {
-    let gate = Meeting::new();
+    let gate = Meeting::new(4);
     let (status, _) = played_past(&rt, rt.alloc(), "run 7 3", "", OUTSIDE, &gate)?;
     assert_eq!(rt; status.code(), 0);
     assert_eq!(rt; gate.reader.load(Ordering::SeqCst), 2);

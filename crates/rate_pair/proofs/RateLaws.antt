@@ -1,5 +1,5 @@
 -- A rate and its bounds are in their order.
-use Rattle.std.proofs.Common.{ℕ, ◌+◌, ◌-◌, ◌/◌, ◌*◌, ◌<◌, ◌≤◌, arith}
+use Rattle.std.proofs.Common.{◌≡◌, refl, ℕ, ◌+◌, ◌-◌, ◌/◌, ◌*◌, ◌<◌, ◌≤◌, arith}
 use Rattle.std.specs.Int.{div_ceil}
 use Rattle.std.proofs.lemmas.Int.{ints}
 use Rattle.std.proofs.lemmas.Nat.{le-div}
@@ -10,13 +10,15 @@ use Rattle.ff_grain.specs.Periods.{lowest_period, highest_period}
 use Rattle.stamp_text.specs.declared.lines.Stamp.{Stamp}
 use Rattle.ff_grain.proofs.PeriodLaws.{lowest-below, highest-above}
 use Rattle.rate_pair.specs.Rates.{IsRate, nominal_rate, nearest_period, rate_of}
+use Rattle.rate_pair.specs.Intervals.{IsBetween}
+use Rattle.rate_pair.specs.declared.rates.Interval.{Interval}
 
 -- a greater divisor does not give more
 div-le-div : (n d e : ℕ) → 0 < d → d ≤ e → n / e ≤ n / d
 div-le-div n d e some more = le-div (n / e) n d some (let fewer : n / e * d ≤ n / e * e = mul-le-mul_left (n / e) more in omega (arith, div-mul-le_self n e))
 
 -- the nearest periods of a floor, of one by more counts and of a ceiling by fewer are in their order
-nearest_is_rate : (freq grains counts trips : ℕ) → trips < counts → IsRate freq (record {
+pub nearest_is_rate : (freq grains counts trips : ℕ) → trips < counts → IsRate freq (record {
   period = nearest_period freq (grains / counts);
   low = nearest_period freq (grains / (counts + trips));
   high = nearest_period freq (div_ceil grains (counts - trips));
@@ -31,6 +33,15 @@ nearest_is_rate freq grains counts trips few =
 pub pair_is_rate : (j k : Stamp) (freq : ℕ) → IsPlausible freq j → IsPlausible freq k → Follows j k → IsRate freq (rate_of j k freq)
 unfolding rate_of
 pair_is_rate j k freq first second order = nearest_is_rate freq _ _ _ (omega arith)
+
+-- what lies between two stamps tells their rate
+pub rate_by_interval : (i : Interval) (j k : Stamp) (freq : ℕ) → IsBetween i j k → record {
+  period = nearest_period freq (i.grains / i.counts);
+  low = nearest_period freq (i.grains / (i.counts + i.trips));
+  high = nearest_period freq (div_ceil i.grains (i.counts - i.trips));
+} ≡ rate_of j k freq
+unfolding rate_of
+rate_by_interval i j k freq is = rw (is.grains, is.counts, is.trips) refl
 
 -- the server's times of accepted stamps go on
 pub forward_rises : (j k : Stamp) (freq : ℕ) → IsInRange j → IsInRange k → IsPlausible freq j → Follows j k → grains_of j.tb ≤ grains_of k.tb

@@ -6,4 +6,4 @@ mod rates;
 #[cfg(test)]
 mod tests;
 
-pub use rates::{Rate, nominal, of_pair};
+pub use rates::{Interval, Rate, between, nominal, of_interval, of_pair};

@@ -1,7 +1,9 @@
 // The rates of a counter.
 ghost use Rattle.std.specs.Prelude.{◌≡◌, ◌^◌, ◌≤◌, ◌<◌};
 ghost use Rattle.stamp_text.specs.Accepted.{IsInRange, IsPlausible, Follows};
+ghost use Rattle.stamp_text.specs.declared.lines.Stamp.{Stamp};
 ghost use Rattle.rate_pair.specs.Rates.{IsRate, nominal_rate, nearest_period, rate_of};
+ghost use Rattle.rate_pair.specs.Intervals.{IsBetween};
 
 use ff_grain::{grains_of, highest_period, lowest_period, nominal_period};
 use stamp_text::Stamp;
@@ -65,6 +67,66 @@ fn nearest_period(freq: u64, x: u128) -> u64
     x.clamp(lowest, highest) as u64
 }
 
+/// What lies between two exchanges with the server, the first before the second. Their rate depends on
+/// nothing else.
+#[derive(Clone, Copy, Debug, PartialEq, Eq)]
+pub struct Interval {
+    /// The grains from one to the other, summed over both ways of the exchange.
+    pub grains: u128,
+    /// The counts from one to the other, summed likewise.
+    pub counts: u64,
+    /// Both round trips together, in counts.
+    pub trips: u64,
+}
+
+/// What lies between two exchanges, `j` before `k`.
+///
+/// Both are accepted stamps of one list, of a counter with the nominal frequency `freq` in Hz.
+#[inline(always)]
+pub fn between(j: &Stamp, k: &Stamp, freq: u64) -> Interval
+    requires first { IsInRange j.now }
+    requires second { IsInRange k.now }
+    requires first_sound { IsPlausible freq j.now }
+    requires second_sound { IsPlausible freq k.now }
+    requires follows { Follows j.now k.now }
+    ensures value { IsBetween result j.now k.now }
+    ensures order { result.trips < result.counts }
+    ensures most { result.counts < 2 ^ 63 }
+{
+    let forward = grains_of(k.tb) - grains_of(j.tb);
+    let backward = grains_of(k.te) - grains_of(j.te);
+    Interval {
+        grains: forward + backward,
+        counts: (k.ta - j.ta) + (k.tf - j.tf),
+        trips: (j.tf - j.ta) + (k.tf - k.ta),
+    }
+}
+
+/// The rate of a counter by what lies between two exchanges, whose counts are more than both round
+/// trips: that of `of_pair`.
+///
+/// `freq` is the counter's nominal frequency in Hz, from 10^6 to 16*10^9.
+#[tactic(auto, using(crate::proofs::RateLaws::nearest_is_rate, crate::proofs::RateLaws::rate_by_interval))]
+pub fn of_interval(between: &Interval, freq: u64) -> Rate
+    requires low { 1000000 ≤ freq }
+    requires high { freq ≤ 16000000000 }
+    requires order { between.now.trips < between.now.counts }
+    requires most { between.now.counts < 2 ^ 63 }
+    ensures value { (j k : Stamp) → IsBetween between.now j k → result ≡ rate_of j k freq }
+    ensures order { IsRate freq result }
+    ensures above { 0 < result.low }
+    ensures bound { result.high < 2 ^ 45 }
+{
+    let grains = between.grains;
+    let counts = u128::from(between.counts);
+    let trips = u128::from(between.trips);
+    Rate {
+        period: nearest_period(freq, grains / counts),
+        low: nearest_period(freq, grains / (counts + trips)),
+        high: nearest_period(freq, grains.div_ceil(counts - trips)),
+    }
+}
+
 /// The rate of a counter by two exchanges with the server, `j` before `k`.
 ///
 /// The period is the grains from one to the other over the counts from one to the other, each summed
@@ -76,7 +138,6 @@ fn nearest_period(freq: u64, x: u128) -> u64
 ///
 /// `freq` is the counter's nominal frequency in Hz, from 10^6 to 16*10^9. Both are accepted stamps of
 /// one list. These do not overlap, so the counts are more than both round trips.
-#[tactic(auto, using(crate::proofs::RateLaws::pair_is_rate), unfolding(crate::specs::Rates::rate_of))]
 pub fn of_pair(j: &Stamp, k: &Stamp, freq: u64) -> Rate
     requires low { 1000000 ≤ freq }
     requires high { freq ≤ 16000000000 }
@@ -90,14 +151,5 @@ pub fn of_pair(j: &Stamp, k: &Stamp, freq: u64) -> Rate
     ensures above { 0 < result.low }
     ensures bound { result.high < 2 ^ 45 }
 {
-    let forward = grains_of(k.tb) - grains_of(j.tb);
-    let backward = grains_of(k.te) - grains_of(j.te);
-    let grains = forward + backward;
-    let counts = u128::from((k.ta - j.ta) + (k.tf - j.tf));
-    let trips = u128::from((j.tf - j.ta) + (k.tf - k.ta));
-    Rate {
-        period: nearest_period(freq, grains / counts),
-        low: nearest_period(freq, grains / (counts + trips)),
-        high: nearest_period(freq, grains.div_ceil(counts - trips)),
-    }
+    of_interval(&between(j, k, freq), freq)
 }

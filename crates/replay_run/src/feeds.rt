@@ -26,8 +26,8 @@ fn events_at(x: &Item) -> usize
     }
 }
 
-// How many events accepted items give.
-pub(crate) fn count_events(items: &[Item]) -> usize
+/// How many events accepted items give: one for each stamp and each set, and none for a leap second.
+pub fn count_events(items: &[Item]) -> usize
     ensures value { result ≡ length (counts_of items.now) }
     ensures most { result ≤ length items.now }
 {

@@ -14,6 +14,7 @@ mod reader;
 #[cfg(test)]
 mod tests;
 
+pub use feeds::count_events;
 pub use lanes::play_lane;
 pub use laws::{
     accepted_items_follow_each_other, journals_are_legal, journals_are_the_only_ones,

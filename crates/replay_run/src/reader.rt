@@ -1,7 +1,8 @@
 // A reader.
 ghost use Rattle.std.specs.Prelude.{◌≡◌, ◌<◌, ◌^◌};
 ghost use Rattle.clock_logs.specs.Attempts.{kind_at, latest_with};
-ghost use Rattle.tick_desk.specs.Answers.{Adds, entry_by, entry_from};
+ghost use Rattle.tick_desk.specs.Answers.{Adds, IsReadable, entry_by, entry_from};
+ghost use Rattle.tick_laws.specs.Goes.{ask_of};
 ghost use Rattle.replay_run.specs.Logs.{IsReady, HasRun, ask_for, tried_by};
 
 use crate::log::ReadLog;
@@ -74,6 +75,17 @@ fn entry_from(count: u64, converted: Converted) -> Entry
     }
 }
 
+// A read, begun and finished here: the code of `read` has a copy for each kind, which is too much to stand
+// at each of its calls.
+#[inline(always)]
+fn read_kind(pass: &mut Pass, kind: Kind) -> Entry
+    requires { IsReadable kind }
+    ensures { Adds pass.old pass.new (ask_of kind) result }
+{
+    let begun = pass.begin(kind);
+    entry_by(kind, pass.finish(begun))
+}
+
 // Makes one attempt. Each kind has a copy of the code of its own.
 #[inline(always)]
 fn attempt(pass: &mut Pass, kind: Kind, freq: u64, latest: u64) -> Entry
@@ -82,11 +94,11 @@ fn attempt(pass: &mut Pass, kind: Kind, freq: u64, latest: u64) -> Entry
     ensures { Adds pass.old pass.new (ask_for freq latest kind) result }
 {
     match kind {
-        Kind::Abs => entry_by(Kind::Abs, pass.read(Kind::Abs)),
-        Kind::Mono => entry_by(Kind::Mono, pass.read(Kind::Mono)),
-        Kind::Uptime => entry_by(Kind::Uptime, pass.read(Kind::Uptime)),
-        Kind::Utc => entry_by(Kind::Utc, pass.read(Kind::Utc)),
-        Kind::Fast => entry_by(Kind::Fast, pass.read(Kind::Fast)),
+        Kind::Abs => read_kind(pass, Kind::Abs),
+        Kind::Mono => read_kind(pass, Kind::Mono),
+        Kind::Uptime => read_kind(pass, Kind::Uptime),
+        Kind::Utc => read_kind(pass, Kind::Utc),
+        Kind::Fast => read_kind(pass, Kind::Fast),
         Kind::Diff => entry_by(Kind::Diff, pass.diff(freq)),
         Kind::Back => entry_from(latest, pass.convert(latest)),
     }

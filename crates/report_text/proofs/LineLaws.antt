@@ -37,3 +37,6 @@ pub summary_made : (w1 w2 w3 w4 w5 a b c d e end : List ℕ) → w1 ++ (a ++ (w2
     ++ w2 ++ b ++ w3 ++ c ++ w4 ++ d ++ w5 ++ e ++ end
 summary_made w1 w2 w3 w4 w5 a b c d e end = piece _ a _ ∙ piece _ w2 _ ∙ piece _ b _ ∙ piece _ w3 _ ∙ piece _ c _ ∙ piece _ w4 _ ∙ piece _ d _
     ∙ piece _ w5 _ ∙ piece _ e end
+
+pub end_made : (w v a b c d e end : List ℕ) → w ++ (a ++ (v ++ (b ++ (c ++ (d ++ (e ++ end)))))) ≡ w ++ a ++ v ++ b ++ c ++ d ++ e ++ end
+end_made w v a b c d e end = piece _ a _ ∙ piece _ v _ ∙ piece _ b _ ∙ piece _ c _ ∙ piece _ d _ ∙ piece _ e end

@@ -19,6 +19,7 @@ use Rattle.clock_lines.specs.declared.readings.Kind.TheVariants as kind
 use Rattle.clock_lines.specs.declared.readings.Reading.{Reading}
 use Rattle.clock_lines.specs.declared.readings.Entry.{Entry}
 use Rattle.clock_lines.specs.declared.readings.Entry.TheVariants as entry
+use Rattle.callouts.specs.declared.timers.Fired.{Fired}
 use Rattle.stamp_maker.specs.declared.made.Made.{Made}
 use Rattle.report_text.specs.declared.lines.ReportHead.{ReportHead}
 use Rattle.report_text.specs.declared.lines.ReportHead.TheVariants as head
@@ -37,27 +38,34 @@ time_text t = signed_decimal t.sec ++ codes "+" ++ decimal t.frac
 abbrev pub mark_text : List ℕ → Bool → List ℕ
 mark_text word b = if b then word else []
 
+-- a word and a number, where there is one
+abbrev pub count_text : List ℕ → Option ℕ → List ℕ
+count_text word None = []
+count_text word (Some n) = word ++ decimal n
+
 -- which version the stamp file has, where it is not the first
 abbrev pub version_part : ℕ → List ℕ
 version_part version = mark_text (codes " version 2") (version == 2)
 
 -- which flags a replay has
-unfoldable pub flags_part : Bool → Bool → Bool → List ℕ
-flags_part back crank utc = mark_text (codes " back") back ++ mark_text (codes " crank") crank ++ mark_text (codes " utc") utc
+unfoldable pub flags_part : Bool → Bool → Bool → Bool → List ℕ
+flags_part back crank utc lane = mark_text (codes " back") back ++ mark_text (codes " crank") crank ++ mark_text (codes " utc") utc
+    ++ mark_text (codes " lane") lane
 
 -- how many ticks, readers and attempts of each a replay has, and which flags
-unfoldable pub options_part : ℕ → ℕ → ℕ → Bool → Bool → Bool → List ℕ
-options_part ticks readers reads back crank utc = codes " ticks " ++ decimal ticks ++ codes " readers " ++ decimal readers ++ codes " reads "
-    ++ decimal reads ++ flags_part back crank utc
+unfoldable pub options_part : ℕ → ℕ → ℕ → Bool → Bool → Bool → Bool → List ℕ
+options_part ticks readers reads back crank utc lane = codes " ticks " ++ decimal ticks ++ codes " readers " ++ decimal readers ++ codes " reads "
+    ++ decimal reads ++ flags_part back crank utc lane
 
 -- the first line of a report
 unfoldable pub head_text : ReportHead → List ℕ
 head_text (head.Stamps freq version) = codes "report stamps freq " ++ decimal freq ++ version_part version ++ codes "\n"
 head_text (head.Rtt freq version) = codes "report rtt freq " ++ decimal freq ++ version_part version ++ codes "\n"
 head_text (head.Estimate freq version) = codes "report estimate freq " ++ decimal freq ++ version_part version ++ codes "\n"
-head_text (head.Ticks freq ticks version) = codes "report ticks freq " ++ decimal freq ++ codes " ticks " ++ decimal ticks ++ version_part version ++ codes "\n"
-head_text (head.Replay freq ticks readers reads back crank utc version) = codes "report replay freq " ++ decimal freq
-    ++ options_part ticks readers reads back crank utc ++ version_part version ++ codes "\n"
+head_text (head.Ticks freq ticks timers version) = codes "report ticks freq " ++ decimal freq ++ codes " ticks " ++ decimal ticks
+    ++ count_text (codes " timers ") timers ++ version_part version ++ codes "\n"
+head_text (head.Replay freq ticks readers reads back crank utc lane version) = codes "report replay freq " ++ decimal freq
+    ++ options_part ticks readers reads back crank utc lane ++ version_part version ++ codes "\n"
 head_text (head.Run number count ideal) = codes "report run number " ++ decimal number ++ codes " count " ++ decimal count
     ++ mark_text (codes " ideal") ideal ++ codes "\n"
 
@@ -142,6 +150,10 @@ given_part e = time_text e.update_time ++ codes " " ++ decimal e.update_ffcount 
 unfoldable pub tick_text : ℕ → Hands → List ℕ
 tick_text n h = codes "tick " ++ decimal n ++ codes " " ++ clock_part h ++ codes " " ++ given_part h.est ++ codes " " ++ leap_part h.est ++ codes "\n"
 
+-- the line of a timer that fires at a tick: its id, and the uptime that it was due at
+unfoldable pub fire_text : ℕ → Fired → List ℕ
+fire_text tick f = codes "fire " ++ decimal tick ++ codes " " ++ decimal f.id ++ codes " " ++ time_text f.due ++ codes "\n"
+
 abbrev pub refused_name : Refused → List ℕ
 refused_name refused.Backward = codes "backward"
 refused_name refused.ServerBackward = codes "server-backward"
@@ -187,11 +199,6 @@ entry_text reader k (entry.Again kind first last) = codes "again " ++ attempt_pa
 entry_text reader k (entry.TooOld count oldest) = codes "old " ++ attempt_part reader k ++ decimal count ++ codes " " ++ decimal oldest ++ codes "\n"
 entry_text reader k (entry.Ahead count at) = codes "ahead " ++ attempt_part reader k ++ decimal count ++ codes " " ++ decimal at ++ codes "\n"
 
--- a word and a number, where there is one
-abbrev pub count_text : List ℕ → Option ℕ → List ℕ
-count_text word None = []
-count_text word (Some n) = word ++ decimal n
-
 -- the line of a summary
 unfoldable pub summary_text : Summary → List ℕ
 summary_text s = codes "summary accepted " ++ decimal s.accepted ++ codes " refused " ++ decimal s.refused ++ codes " shifts " ++ decimal s.shifts
@@ -204,7 +211,7 @@ ideal_text tick distance bound = codes "ideal " ++ decimal tick ++ codes " " ++ 
 -- the last line of a report
 unfoldable pub end_text : EndCounts → List ℕ
 end_text e = codes "end accepted " ++ decimal e.accepted ++ codes " refused " ++ decimal e.refused ++ count_text (codes " ticks ") e.ticks
-    ++ count_text (codes " entries ") e.entries ++ codes "\n"
+    ++ count_text (codes " entries ") e.entries ++ count_text (codes " fired ") e.fired ++ codes "\n"
 
 abbrev pub why_name : Why → List ℕ
 why_name why.Head = codes "head"

@@ -1,10 +1,11 @@
 // The lines that a report has many of, each made in a text of its own. Who pushes many lends one text to all
 // of them: `lines`, `entries` and `made` have the calls for that.
 ghost use Rattle.std.specs.Prelude.{◌≤◌, ◌<◌};
-ghost use Rattle.report_text.specs.Text.{stamp_text, base_text, estimate_text, set_text, leap_text, tick_text, refused_text, entry_text, made_text};
+ghost use Rattle.report_text.specs.Text.{stamp_text, base_text, estimate_text, set_text, leap_text, tick_text, fire_text, refused_text, entry_text, made_text};
 
 use crate::line::LineText;
 use crate::{entries, lines, made};
+use callouts::Fired;
 use clock_lines::Entry;
 use ff_estimator::Full;
 use ff_grain::Bintime;
@@ -56,6 +57,13 @@ pub fn tick_line<K: Sink>(sink: &mut K, n: u64, h: &Hands) -> Result<(), Failed>
     ensures { K.push_gives sink.old (tick_text n h.now) result sink.new }
 {
     lines::tick_line(sink, &mut LineText::new(), n, h)
+}
+
+/// Pushes the line of a timer that fires at the tick with the number `tick`, from 0.
+pub fn fire_line<K: Sink>(sink: &mut K, tick: u64, f: &Fired) -> Result<(), Failed>
+    ensures { K.push_gives sink.old (fire_text tick f.now) result sink.new }
+{
+    lines::fire_line(sink, &mut LineText::new(), tick, f)
 }
 
 /// Pushes the line of an item that was refused, at this line of its file.

@@ -15,8 +15,8 @@ mod tests;
 mod worked;
 
 pub use alone::{
-    base_line, entry_line, estimate_line, leap_line, made_line, refused_line, set_line, stamp_line,
-    tick_line,
+    base_line, entry_line, estimate_line, fire_line, leap_line, made_line, refused_line, set_line,
+    stamp_line, tick_line,
 };
 pub use laws::{made_files_are_read, made_lines_are_read};
 pub use line::LineText;

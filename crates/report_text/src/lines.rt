@@ -2,10 +2,11 @@
 // text does. Lines that a report has many of are made in a text that is lent to them, so that its bytes are
 // filled once for all of them.
 ghost use Rattle.std.specs.Prelude.{◌≡◌, ◌≤◌, ◌+◌, ◌++◌, length};
-ghost use Rattle.report_text.specs.Text.{version_part, flags_part, options_part, head_text, server_part, stamp_text, base_text, time_part, spread_part, told_leaps_part, estimate_text, set_text, leap_text, clock_part, given_part, leap_part, tick_text, refused_text, summary_text, ideal_text, end_text, fault_text};
+ghost use Rattle.report_text.specs.Text.{version_part, flags_part, options_part, head_text, server_part, stamp_text, base_text, time_part, spread_part, told_leaps_part, estimate_text, set_text, leap_text, clock_part, given_part, leap_part, tick_text, fire_text, refused_text, summary_text, ideal_text, end_text, fault_text};
 
 use crate::line::LineText;
 use crate::names::{add_how, add_marks, limit_name, refused_name, why_name};
+use callouts::Fired;
 use ff_estimator::Full;
 use ff_grain::Bintime;
 use ff_hands::{Estimate, Hands};
@@ -36,6 +37,8 @@ pub enum ReportHead {
     Ticks {
         freq: u64,
         ticks: u32,
+        /// How many timers are added before the first tick, if they are asked for.
+        timers: Option<u32>,
         version: u32,
     },
     /// The report on a replay: the ticks as above, so many readers, and so many attempts of each.
@@ -50,6 +53,8 @@ pub enum ReportHead {
         crank: bool,
         /// Attempts also read `Utc`.
         utc: bool,
+        /// The daemon runs in a thread of its own, and its estimates come over a lane.
+        lane: bool,
         version: u32,
     },
     /// The summary of a run over so many made stamps, which a number tells.
@@ -76,7 +81,7 @@ pub struct Summary {
     pub local: u64,
 }
 
-/// What the end line counts. Ticks and entries are told where a report has them.
+/// What the end line counts. Ticks, entries and timers are told where a report has them.
 #[derive(Clone, Copy, Debug, PartialEq, Eq)]
 pub struct EndCounts {
     /// Accepted stamps.
@@ -87,6 +92,8 @@ pub struct EndCounts {
     pub ticks: Option<u64>,
     /// Entries of the readers' logs.
     pub entries: Option<u64>,
+    /// Timers that fired.
+    pub fired: Option<u64>,
 }
 
 /// Which limit an input passes.
@@ -126,11 +133,12 @@ fn add_version_part(line: &mut LineText, version: u32)
 
 // Adds the flags of a replay.
 #[tactic(auto, unfolding(crate::specs::Text::flags_part))]
-fn add_flags_part(line: &mut LineText, back: bool, crank: bool, utc: bool)
+fn add_flags_part(line: &mut LineText, back: bool, crank: bool, utc: bool, lane: bool)
     requires { length line.old + 240 ≤ 640 }
-    ensures text { line.new ≡ flags_part back crank utc ++ line.old }
+    ensures text { line.new ≡ flags_part back crank utc lane ++ line.old }
     ensures short { length line.new ≤ length line.old + 20 }
 {
+    line.mark(b" lane", lane);
     line.mark(b" utc", utc);
     line.mark(b" crank", crank);
     line.mark(b" back", back);
@@ -146,12 +154,13 @@ fn add_options_part(
     back: bool,
     crank: bool,
     utc: bool,
+    lane: bool,
 )
     requires { length line.old + 240 ≤ 640 }
-    ensures text { line.new ≡ options_part ticks readers reads back crank utc ++ line.old }
+    ensures text { line.new ≡ options_part ticks readers reads back crank utc lane ++ line.old }
     ensures short { length line.new ≤ length line.old + 200 }
 {
-    add_flags_part(line, back, crank, utc);
+    add_flags_part(line, back, crank, utc, lane);
     line.number(u64::from(reads));
     line.word(b" reads ");
     line.number(u64::from(readers));
@@ -185,9 +194,11 @@ fn head(h: ReportHead) -> LineText
         ReportHead::Ticks {
             freq,
             ticks,
+            timers,
             version,
         } => {
             add_version_part(&mut line, version);
+            line.count(b" timers ", timers.map(u64::from));
             line.number(u64::from(ticks));
             line.word(b" ticks ");
             line.number(freq);
@@ -201,10 +212,13 @@ fn head(h: ReportHead) -> LineText
             back,
             crank,
             utc,
+            lane,
             version,
         } => {
             add_version_part(&mut line, version);
-            add_options_part(&mut line, ticks, readers, reads, back, crank, utc);
+            add_options_part(
+                &mut line, ticks, readers, reads, back, crank, utc, lane,
+            );
             line.number(freq);
             line.word(b"report replay freq ");
         }
@@ -425,7 +439,7 @@ pub fn leap_line<K: Sink>(
 fn add_clock_part(line: &mut LineText, h: &Hands)
     requires { length line.old + 300 ≤ 640 }
     ensures text { line.new ≡ clock_part h.now ++ line.old }
-    ensures short { length line.new ≤ length line.old + 240 }
+    ensures short { length line.new ≤ length line.old + 200 }
 {
     add_marks(line, h.kstatus);
     line.word(b" ");
@@ -474,6 +488,26 @@ pub fn tick_line<K: Sink>(
     line.word(b" ");
     line.number(n);
     line.word(b"tick ");
+    sink.push(line.bytes())
+}
+
+/// Pushes the line of a timer that fires at the tick with the number `tick`, from 0: its id, and the uptime
+/// that it was due at.
+#[tactic(auto, unfolding(crate::specs::Text::fire_text))]
+pub fn fire_line<K: Sink>(
+    sink: &mut K,
+    line: &mut LineText,
+    tick: u64,
+    f: &Fired,
+) -> Result<(), Failed>
+    ensures { K.push_gives sink.old (fire_text tick f.now) result sink.new }
+{
+    line.clear();
+    line.word(b"\n");
+    line.time_column(f.due);
+    line.column(f.id);
+    line.number(tick);
+    line.word(b"fire ");
     sink.push(line.bytes())
 }
 
@@ -545,6 +579,7 @@ pub fn end_line<K: Sink>(sink: &mut K, e: &EndCounts) -> Result<(), Failed>
 {
     let mut line = LineText::new();
     line.word(b"\n");
+    line.count(b" fired ", e.fired);
     line.count(b" entries ", e.entries);
     line.count(b" ticks ", e.ticks);
     line.number(e.refused);

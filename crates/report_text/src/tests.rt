@@ -72,6 +72,7 @@ fn lines_of_both_versions(rt: HostRuntime) -> Result<(), Fail> {
         let head = ReportHead::Ticks {
             freq: 1_000_000,
             ticks: 4,
+            timers: None,
             version,
         };
         assert_eq!(rt; head_line(&mut sink, &head), Ok(()));

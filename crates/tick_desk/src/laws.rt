@@ -1,6 +1,7 @@
 // What holds of calls that are made in parts.
 ghost use Rattle.std.specs.Prelude.{◌≡◌, ◌∷◌, ◌++◌, ◌+◌, ◌-◌, ◌≤◌, ◌<◌, ◌^◌, ℕ, List, length, false, []};
 ghost use Rattle.ff_hands.specs.declared.hands.Hands.{Hands};
+ghost use Rattle.clock_core.specs.Machines.{ReadsNow};
 ghost use Rattle.clock_lines.specs.Readings.{newest, reading_at};
 ghost use Rattle.clock_lines.specs.Values.{MayRead};
 ghost use Rattle.clock_lines.specs.declared.readings.Entry.TheVariants as entry;
@@ -54,7 +55,7 @@ pub fn fresh_desks_are_unused()
 
 /// The law of a pen's reading of now: it is of the kind that was asked for, by the newest tick and its hands,
 /// at a counter that the pen may meet, or for `Fast` at the tick's own count. The pen keeps that counter
-/// behind those that it loaded before.
+/// behind those that it loaded before. Utc is not for a pen: passes alone read it.
 pub fn pens_read_by_the_newest_tick()
     ensures tick { (old new : PenShows) (k : Kind) (r : Reading) → ReadsNewest old new k r → r.tick ≡ length old.journal - 1 }
     ensures is { (old new : PenShows) (k : Kind) (r : Reading) → ReadsNewest old new k r → r ≡ reading_at (newest old.journal) r.tick k r.count }
@@ -62,4 +63,5 @@ pub fn pens_read_by_the_newest_tick()
     ensures abs { (old new : PenShows) (r : Reading) → ReadsNewest old new kind.Abs r → IsCounter old r.count × (new.counters ≡ old.counters ++ r.count ∷ []) }
     ensures mono { (old new : PenShows) (r : Reading) → ReadsNewest old new kind.Mono r → IsCounter old r.count × (new.counters ≡ old.counters ++ r.count ∷ []) }
     ensures uptime { (old new : PenShows) (r : Reading) → ReadsNewest old new kind.Uptime r → IsCounter old r.count × (new.counters ≡ old.counters ++ r.count ∷ []) }
+    ensures utc { ReadsNow kind.Utc → ⊥ }
 {}

@@ -125,7 +125,7 @@ impl Pass {
                 if first % 2 != 0 {
                     return Answer::Again { first, last: first };
                 }
-                self.finish_whole(kind, first)
+                self.finish_kind(kind, first)
             }
         }
     }
@@ -139,6 +139,23 @@ impl Pass {
     /// FreeBSD's `ffclock_abstime`.
     #[inline(always)]
     pub fn read(&mut self, kind: Kind) -> Answer
+        requires { IsReadable kind }
+        ensures adds { Adds self.old self.new (ask_of kind) (entry_by kind result) }
+        ensures late { IsLate kind result }
+    {
+        match kind {
+            Kind::Abs => self.read_kind(Kind::Abs),
+            Kind::Mono => self.read_kind(Kind::Mono),
+            Kind::Uptime => self.read_kind(Kind::Uptime),
+            Kind::Utc => self.read_kind(Kind::Utc),
+            Kind::Fast => self.read_kind(Kind::Fast),
+            Kind::Diff | Kind::Back => unreachable!(),
+        }
+    }
+
+    // Each kind has a copy of this code of its own, which keeps in hand only those fields that it needs.
+    #[inline(always)]
+    fn read_kind(&mut self, kind: Kind) -> Answer
         requires { IsReadable kind }
         ensures adds { Adds self.old self.new (ask_of kind) (entry_by kind result) }
         ensures late { IsLate kind result }
@@ -163,24 +180,7 @@ impl Pass {
         self.finish_quick(ask, first)
     }
 
-    // Each kind has a copy of the code of its own, which keeps in hand only those fields that it needs.
-    #[inline(always)]
-    fn finish_whole(&mut self, kind: Kind, first: u64) -> Answer
-        requires way { way_of kind ≡ full }
-        requires at { IsStarted self.old.view (ask_of kind) first }
-        ensures table { self.new.table ≡ self.old.table }
-        ensures answers { Answers self.old.view self.new.view (entry_by kind result) }
-        ensures by { IsEntryBy (hands_of self.new.view) (entry_by kind result) }
-    {
-        match kind {
-            Kind::Abs => self.finish_kind(Kind::Abs, first),
-            Kind::Mono => self.finish_kind(Kind::Mono, first),
-            Kind::Uptime => self.finish_kind(Kind::Uptime, first),
-            Kind::Utc => self.finish_kind(Kind::Utc, first),
-            Kind::Fast | Kind::Diff | Kind::Back => unreachable!(),
-        }
-    }
-
+    // The rest of a read that loads the turn word again.
     #[inline(always)]
     fn finish_kind(&mut self, kind: Kind, first: u64) -> Answer
         requires way { way_of kind ≡ full }

@@ -29,30 +29,28 @@ fn seconds(sec: u32) -> Bintime
     }
 }
 
-// The due time of a timer, from 1 to 256 s, spread by its number.
-fn due(number: u32) -> Bintime
-    ensures { IsDue result }
-{
-    seconds((number.wrapping_mul(2_654_435_761) >> 24) + 1)
+// From 1 to 256 s, spread by a number.
+fn spread(number: u32) -> u32 {
+    (number.wrapping_mul(2_654_435_761) >> 24) + 1
 }
 
-// Adds a timer, where there is room.
-fn add(wheel: &mut Wheel, number: u32) -> Digest
+// Adds a timer that is due at a time, where there is room.
+fn add(wheel: &mut Wheel, sec: u32) -> Digest
     requires { wheel.old.added < 2 ^ 62 }
     ensures { wheel.new.added ≤ wheel.old.added + 1 }
 {
-    match wheel.add(due(number)) {
+    match wheel.add(seconds(sec)) {
         Ok(t) => t.id,
         Err(_) => 0,
     }
 }
 
 // The same, and cancels it.
-fn add_and_cancel(wheel: &mut Wheel, number: u32) -> Digest
+fn add_and_cancel(wheel: &mut Wheel, sec: u32) -> Digest
     requires { wheel.old.added < 2 ^ 62 }
     ensures { wheel.new.added ≤ wheel.old.added + 1 }
 {
-    match wheel.add(due(number)) {
+    match wheel.add(seconds(sec)) {
         Ok(t) => u64::from(wheel.cancel(t)),
         Err(_) => 0,
     }
@@ -75,7 +73,7 @@ fn adds(wheel: &mut Wheel, times: u32) -> Digest
 {
     let mut sum = 0;
     for i in 0..times {
-        sum = sum ^ add(wheel, i);
+        sum = sum ^ add(wheel, spread(i));
     }
     sum
 }
@@ -86,7 +84,7 @@ fn cancels(wheel: &mut Wheel, times: u32) -> Digest
 {
     let mut sum = 0;
     for i in 0..times {
-        sum = sum ^ add_and_cancel(wheel, i);
+        sum = sum ^ add_and_cancel(wheel, spread(i));
     }
     sum
 }
@@ -97,7 +95,22 @@ fn fires(wheel: &mut Wheel, times: u32) -> Digest
 {
     let mut sum = 0;
     for i in 0..times {
-        sum = sum ^ fire(wheel, 256) ^ add(wheel, i);
+        sum = sum ^ fire(wheel, 256) ^ add(wheel, spread(i));
+    }
+    sum
+}
+
+// Fires the first timer and adds one that is due from 1 to 256 s later, as time goes on: a second passes while so many
+// fire.
+#[inline(never)]
+fn holds(wheel: &mut Wheel, times: u32, pace: u32) -> Digest
+    requires added { wheel.old.added < 2 ^ 40 }
+    requires pace { 1 ≤ pace }
+{
+    let mut sum = 0;
+    for i in 0..times {
+        let due = (i / pace).saturating_add(spread(i));
+        sum = sum ^ fire(wheel, u32::MAX) ^ add(wheel, due);
     }
     sum
 }
@@ -120,6 +133,7 @@ fn call(wheel: &mut Wheel, what: &str, live: u32, times: u32) -> Option<Digest>
     let more = match what {
         "cancel" => cancels(wheel, times),
         "fire" => fires(wheel, times),
+        "hold" => holds(wheel, times, live / 128 + 1),
         "none" => nones(wheel, times),
         _ => return None,
     };

@@ -32,6 +32,11 @@ IsCovered w e kind.Mono count time bound = ⊤
 IsCovered w e kind.Uptime count time bound = ⊤
 IsCovered w e kind.Back count time bound = ⊤
 
+-- a reading of Utc is covered exactly where the absolute time that it comes from, its own with the leap seconds, is
+abbrev pub UtcIsCovered : Type 0
+UtcIsCovered = (w : World) (e : Estimate) (count bound : ℕ) (time : ℤ) → IsCovered w e kind.Utc count time bound
+    → IsCovered w e kind.Abs count (time +ℤ leaps_at e count *ℤ pos (2 ^ 64)) bound
+
 -- so is all that may be read by the hands of a tick
 abbrev pub IsTrueTick : World → Hands → Type 0
 IsTrueTick w h = (k : Kind) (count : ℕ) → MayRead k h.count count → IsCovered w h.est k count (number_of (value_of h k count)) (bound_of h k count)

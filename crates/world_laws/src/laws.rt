@@ -1,6 +1,7 @@
 // What holds of the definitions in an ideal world.
 ghost use Rattle.world_laws.specs.Journals.{PlansGoBy, BoundsHold, ReadingsHold, PlaysHold};
 ghost use Rattle.world_laws.specs.Marks.{SetsAreMarked, TakesAreMarked, TakesAreTrue};
+ghost use Rattle.world_laws.specs.Truths.{UtcIsCovered};
 ghost use Rattle.world_laws.specs.Laws.{PairsHold, NominalHolds, TermsHold, MeansHold, PredictionsHold, SpreadsHold, EstimatesHold};
 
 /// The law that the bounds of a rate cover the true period: of the rate of a pair that lies in the
@@ -42,4 +43,10 @@ pub fn sets_promise_nothing()
     ensures set { SetsAreMarked }
     ensures take { TakesAreMarked }
     ensures again { TakesAreTrue }
+{}
+
+/// The law that what is promised of Utc is what is promised of the absolute clock: where a reading of Utc is
+/// within its bound, so is its time with the leap seconds that hold there.
+pub fn utc_is_as_true()
+    ensures { UtcIsCovered }
 {}

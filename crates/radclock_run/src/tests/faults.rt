@@ -9,12 +9,14 @@ use std::test::Fail;
 use std::thread::Threads;
 
 /// Command lines that print the same at each run, and whether they read the input.
-static COMMANDS: [(&str, bool); 9] = [
+static COMMANDS: [(&str, bool); 10] = [
     ("stamps", true),
     ("rtt", true),
     ("estimate", true),
     ("ticks --ticks 1", true),
+    ("ticks --ticks 1 --timers 3", true),
     ("replay --ticks 1 --readers 0", true),
+    ("replay --ticks 1 --readers 0 --lane", true),
     ("replay --readers 16 --reads 0 --back", true),
     ("make 7 3", false),
     ("run 7 3", false),

@@ -13,6 +13,7 @@ pub struct Asked {
     pub back: bool,
     pub crank: bool,
     pub utc: bool,
+    pub lane: bool,
 }
 
 /// A tick, as far as readers go by it. Times are in grains of 2^-64 s.
@@ -183,6 +184,7 @@ fn asked_of(line: &str) -> Option<Asked> {
     let back = columns.flag("back");
     let crank = columns.flag("crank");
     let utc = columns.flag("utc");
+    let lane = columns.flag("lane");
     let asked = Asked {
         freq,
         ticks,
@@ -191,6 +193,7 @@ fn asked_of(line: &str) -> Option<Asked> {
         back,
         crank,
         utc,
+        lane,
     };
     matches!(columns.rest, "" | "version 2").then_some(asked)
 }

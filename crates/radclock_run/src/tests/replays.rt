@@ -1,7 +1,7 @@
 // Replays whose reports are judged line by line.
 use crate::tests::judge::{Wrong, first_wrong, is_true_attempt, is_true_tick};
 use crate::tests::logs::{Attempt, Came, report_of};
-use crate::tests::rows::{INPUT, REPLAYS};
+use crate::tests::rows::{HEAD, INPUT, REPLAYS};
 use crate::tests::second::SETS;
 use crate::tests::{OUTSIDE, PATIENCE, played, played_past};
 use rad_io::Gate;
@@ -53,7 +53,19 @@ leap 20000000000 1
 ";
 
 /// The words of a replay of a file of version 2, that file, and the first and the last line that are written.
-static SECOND: [(&str, &str, &str, &str); 4] = [
+static SECOND: [(&str, &str, &str, &str); 6] = [
+    (
+        "replay --utc --lane --readers 2 --reads 600",
+        SETS,
+        "report replay freq 1000000000 ticks 4 readers 2 reads 600 utc lane version 2\n",
+        "\nend accepted 2 refused 0 ticks 13 entries 1200\n",
+    ),
+    (
+        "replay --lane --utc --back --reads 210",
+        LEAPS,
+        "report replay freq 1000000000 ticks 4 readers 2 reads 210 back utc lane version 2\n",
+        "\nend accepted 3 refused 0 ticks 13 entries 420\n",
+    ),
     (
         "replay --utc --readers 2 --reads 600",
         SETS,
@@ -91,7 +103,11 @@ fn replays_of_version_2_are_legal(rt: HostRuntime) -> Result<(), Fail> {
 }
 
 /// Command lines for a file of forty stamps, and how often each is run.
-static FORTY: [(&str, u32); 3] = [
+static FORTY: [(&str, u32); 4] = [
+    (
+        "replay --ticks 15 --readers 4 --reads 400 --back --lane",
+        20,
+    ),
     ("replay --ticks 15 --readers 4 --reads 400 --crank", 20),
     ("replay --ticks 15 --readers 4 --reads 400 --back", 5),
     (
@@ -112,21 +128,91 @@ fn replays_of_forty_stamps_are_legal(rt: HostRuntime) -> Result<(), Fail> {
     Ok(())
 }
 
+/// Words without a lane, the same with one, a file, and the first line of the report over the lane.
+static LANES: [(&str, &str, &str, &str); 5] = [
+    (
+        "replay --ticks 1 --readers 0",
+        "replay --ticks 1 --readers 0 --lane",
+        INPUT,
+        "report replay freq 1000000000 ticks 1 readers 0 reads 100 lane\n",
+    ),
+    (
+        "replay --readers 0 --utc",
+        "replay --lane --readers 0 --utc",
+        SETS,
+        "report replay freq 1000000000 ticks 4 readers 0 reads 100 utc lane version 2\n",
+    ),
+    (
+        "replay --ticks 0 --readers 0",
+        "replay --ticks 0 --readers 0 --lane",
+        LEAPS,
+        "report replay freq 1000000000 ticks 0 readers 0 reads 100 lane version 2\n",
+    ),
+    // With refused stamps, and with no event.
+    (
+        "replay --readers 0",
+        "replay --readers 0 --lane",
+        REFUSED,
+        "report replay freq 1000000000 ticks 4 readers 0 reads 100 lane\n",
+    ),
+    (
+        "replay --readers 0",
+        "replay --readers 0 --lane",
+        HEAD,
+        "report replay freq 1000000000 ticks 4 readers 0 reads 100 lane\n",
+    ),
+];
+
+/// A file whose second and fourth stamps are refused.
+const REFUSED: &str = "radclock-stamps 1
+freq 1000000000
+1000000000 1700000000 1700000000 1000100000
+1000100000 1700000001 1700000001 1000200000
+17000000000 1700000016 1700000016 17000100000
+17000000000 1700000017 1700000017 17000200000
+";
+
 #[test]
-fn a_day_is_replayed(rt: HostRuntime) -> Result<(), Fail> {
-    let (_, day) = played(&rt, rt.alloc(), "make 7 5400", "", OUTSIDE)?;
-    let words = "replay --readers 4 --reads 1000";
-    let (status, told) = played(&rt, rt.alloc(), words, &day, OUTSIDE)?;
+fn a_lane_changes_the_first_line_alone(rt: HostRuntime) -> Result<(), Fail> {
+    for (plain, laned, input, head) in &LANES {
+        let (_, without) = played(&rt, rt.alloc(), plain, input, OUTSIDE)?;
+        let (status, told) = played(&rt, rt.alloc(), laned, input, OUTSIDE)?;
+        assert_eq!(rt; status.code(), 0, "at {laned}");
+        assert!(rt; told.starts_with(*head), "at {laned}: {told}");
+        let same = told.lines().skip(1).eq(without.lines().skip(1));
+        assert!(rt; same, "at {laned}: {told}");
+    }
+    Ok(())
+}
+
+// A day of stamps is replayed, and what is printed of it is legal and true.
+fn is_replayed<R: Abort + Threads + Sync>(
+    rt: &R,
+    alloc: Global,
+    words: &'static str,
+) -> Result<(), Fail> {
+    let (_, day) = played(rt, alloc, "make 7 5400", "", OUTSIDE)?;
+    let (status, told) = played(rt, alloc, words, &day, OUTSIDE)?;
     assert_eq!(rt; status.code(), 0);
     assert_eq!(rt; told.lines().count(), 36400);
     assert!(rt; told.ends_with("\nend accepted 5400 refused 0 ticks 26998 entries 4000\n"));
-    let report = report_of(rt.alloc(), &told, usize::MAX)?;
+    let report = report_of(alloc, &told, usize::MAX)?;
     assert_eq!(rt; report.events.len(), 5400);
     assert_eq!(rt; report.ticks.len(), 26998);
     assert_eq!(rt; first_wrong(&report), None);
     assert!(rt; report.ticks.iter().all(is_true_tick));
     assert!(rt; report.attempts.iter().all(is_true_attempt));
     Ok(())
+}
+
+#[test]
+fn a_day_is_replayed(rt: HostRuntime) -> Result<(), Fail> {
+    is_replayed(&rt, rt.alloc(), "replay --readers 4 --reads 1000")
+}
+
+#[test]
+fn a_day_is_replayed_over_a_lane(rt: HostRuntime) -> Result<(), Fail> {
+    is_replayed(&rt, rt.alloc(), "replay --lane --readers 4 --reads 1000")
 }
 
 // Holds the driver before tick 2 until two readers are before their first attempts, these until it is before

@@ -391,7 +391,17 @@ end accepted 2 refused 7
 
 /// The words of a replay of two stamps, and the first and the last line that are written. What the readers
 /// read hangs on the order in which the threads come.
-pub static REPLAYS: [(&str, &str, &str); 11] = [
+pub static REPLAYS: [(&str, &str, &str); 13] = [
+    (
+        "replay --lane --ticks 4 --readers 2 --reads 400",
+        "report replay freq 1000000000 ticks 4 readers 2 reads 400 lane\n",
+        "\nend accepted 2 refused 0 ticks 8 entries 800\n",
+    ),
+    (
+        "replay --utc --ticks 15 --lane --readers 16 --reads 350 --back",
+        "report replay freq 1000000000 ticks 15 readers 16 reads 350 back utc lane\n",
+        "\nend accepted 2 refused 0 ticks 19 entries 5600\n",
+    ),
     (
         "replay --utc --readers 2 --reads 600",
         "report replay freq 1000000000 ticks 4 readers 2 reads 600 utc\n",
@@ -474,7 +484,7 @@ pub static LONG_LINES: [(&str, &str, usize, &str, &str); 14] = [
 ];
 
 /// Words that are no line of the command.
-pub static OTHER_WORDS: [&str; 98] = [
+pub static OTHER_WORDS: [&str; 101] = [
     "",
     "-- stamps",
     "stamps extra",
@@ -559,6 +569,9 @@ pub static OTHER_WORDS: [&str; 98] = [
     "replay --utc --utc",
     "replay --UTC",
     "ticks --utc",
+    "replay --lane=",
+    "replay --lane --crank",
+    "ticks --lane",
     "replay --readers --back",
     "make",
     "make 7 0",

@@ -9,4 +9,5 @@ returns c =
     let reads = with_one _ _ _ _ _ readers c.option-3.ensures.rule c.option-3.ensures.local c.in_ok-arg-3.ensures in
     let back = with_one _ _ _ _ _ reads c.flag.ensures.rule c.flag.ensures.local c.in_ok-arg-4.ensures in
     let crank = with_one _ _ _ _ _ back c.flag-2.ensures.rule c.flag-2.ensures.local c.in_ok-arg-5.ensures in
-    IfOk-weaker c.arg-6.result _ _ (λ r adds. with_one _ _ _ _ _ crank c.flag-3.ensures.rule c.flag-3.ensures.local adds) c.arg-6.ensures
+    let utc = with_one _ _ _ _ _ crank c.flag-3.ensures.rule c.flag-3.ensures.local c.in_ok-arg-6.ensures in
+    IfOk-weaker c.arg-7.result _ _ (λ r adds. with_one _ _ _ _ _ utc c.flag-4.ensures.rule c.flag-4.ensures.local adds) c.arg-7.ensures

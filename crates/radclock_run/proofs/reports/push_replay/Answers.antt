@@ -1,4 +1,4 @@
-use Rattle.std.proofs.Common.{◌≡◌, ℕ, [], ◌∷◌, ◌++◌, Some, ap, ◌∙◌, subst, length}
+use Rattle.std.proofs.Common.{◌≡◌, ℕ, [], ◌∷◌, ◌++◌, None, Some, ap, ◌∙◌, subst, length}
 use Rattle.std.specs.List.{count_by}
 use Rattle.std.proofs.lemmas.Result.{err_from_is_err_and}
 use Rattle.rad_io.specs.Pushes.{Writes}
@@ -42,7 +42,8 @@ returns g c =
     let told = told_text c.args.head.now (g.T.Telling.says c.args.file.now.head) q in
     let logs = entries_of c.args.logs.now in
     let front = (told ++ tick_lines 0 ticks) ++ log_lines 0 logs in
-    let end : ℕ → ℕ → ℕ → EndCounts = λ a r n. record { accepted = a; refused = r; ticks = Some (length ticks); entries = Some n } in
+    let end : ℕ → ℕ → ℕ → EndCounts = λ a r n.
+        record { accepted = a; refused = r; ticks = Some (length ticks); entries = Some n; fired = None } in
     let two = wrote-on _ _ _ _ _ _ _ _ c.in_ok-tally.ensures.lines c.in_ok-push_journal.ensures in
     let three = wrote-on _ _ _ _ _ _ _ _ two c.in_ok-push_logs.ensures in
     let mid = c.push_logs.new.sink in

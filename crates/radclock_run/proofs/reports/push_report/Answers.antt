@@ -25,7 +25,7 @@ returns g c =
     let counts = c.in_ok-tally.ensures.counts in
     let q = outcomes c.args.file.now.head.freq [] c.args.file.now.items.items in
     let told = told_text c.args.head.now (g.T.Telling.says c.args.file.now.head) q in
-    let end : ℕ → ℕ → EndCounts = λ a r. record { accepted = a; refused = r; ticks = None; entries = None } in
+    let end : ℕ → ℕ → EndCounts = λ a r. record { accepted = a; refused = r; ticks = None; entries = None; fired = None } in
     let last = writes_last _ _ _ c.push_told.new.sink c.push_told.new.sink c.end_line.new.sink [] (end_text (end tally.accepted tally.refused))
     c.end_line.result (sink.appends _ _ _ _ once) (sink.cause _ _ _ _ once) (wrote_nothing _ _ _ _) once in
     let whole = writes-on _ _ _ c.args.sink.now c.push_told.new.sink c.end_line.new.sink told (end_text (end tally.accepted tally.refused) ∷ [])

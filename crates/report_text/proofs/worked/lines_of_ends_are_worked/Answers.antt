@@ -1,7 +1,23 @@
 use Rattle.std.proofs.Common.{refl}
 use Rattle.std.specs.Fmt.{digits}
-use Rattle.report_text.specs.Text.{summary_text, ideal_text, end_text, fault_text}
+use Rattle.report_text.specs.Text.{head_text, options_part, flags_part, summary_text, ideal_text, end_text, fault_text}
 use Rattle.report_text.proofs.worked.lines_of_ends_are_worked.Goals as goal
+
+pub returns-clause-lane : goal.returns-clause-lane
+unfolding head_text options_part flags_part digits
+returns-clause-lane c = refl
+
+pub returns-clause-flags : goal.returns-clause-flags
+unfolding head_text options_part flags_part digits
+returns-clause-flags c = refl
+
+pub returns-clause-timers : goal.returns-clause-timers
+unfolding head_text digits
+returns-clause-timers c = refl
+
+pub returns-clause-timed : goal.returns-clause-timed
+unfolding head_text digits
+returns-clause-timed c = refl
 
 pub returns-clause-summary : goal.returns-clause-summary
 unfolding summary_text digits
@@ -18,6 +34,10 @@ returns-clause-short c = refl
 pub returns-clause-whole : goal.returns-clause-whole
 unfolding end_text digits
 returns-clause-whole c = refl
+
+pub returns-clause-fired : goal.returns-clause-fired
+unfolding end_text digits
+returns-clause-fired c = refl
 
 pub returns-clause-input : goal.returns-clause-input
 unfolding fault_text digits

@@ -32,11 +32,11 @@ returns c =
     let way : way_of c.args.begun.kind ≡ full = search rules in
     let begun = subst IsBegun c.begun.view_is c.begun.invariant in
     let kind = ap (λ b. b.kind) c.begun.view_is in
-    let view = c.finish_whole.new.self.view in record {
-      finishes = rest_of c.args.begun c.args.self.now c.finish_whole.new.self (entry_by c.args.begun.kind c.finish_whole.result) begun c.requires
+    let view = c.finish_kind.new.self.view in record {
+      finishes = rest_of c.args.begun c.args.self.now c.finish_kind.new.self (entry_by c.args.begun.kind c.finish_kind.result) begun c.requires
           (even_yet c.args.begun c.args.self.now begun c.requires (ap (λ b. b.first % 2) (sym c.begun.view_is) ∙ c.if-first-ne0.false))
-          c.finish_whole.ensures.table
-          (subst (λ k. Answers c.args.self.now.view view (entry_by k c.finish_whole.result)) kind c.finish_whole.ensures.answers)
-          (subst (λ k. IsEntryBy (hands_of view) (entry_by k c.finish_whole.result)) kind c.finish_whole.ensures.by);
+          c.finish_kind.ensures.table
+          (subst (λ k. Answers c.args.self.now.view view (entry_by k c.finish_kind.result)) kind c.finish_kind.ensures.answers)
+          (subst (λ k. IsEntryBy (hands_of view) (entry_by k c.finish_kind.result)) kind c.finish_kind.ensures.by);
       late = full_late c.args.begun.kind _ way;
     }

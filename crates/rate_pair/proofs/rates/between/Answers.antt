@@ -1,6 +1,6 @@
 use Rattle.std.proofs.Common.{arith}
 use Rattle.rate_pair.proofs.RateLaws.{forward_rises, backward_rises}
-use Rattle.rate_pair.proofs.rates.of_pair.Goals as goal
+use Rattle.rate_pair.proofs.rates.between.Goals as goal
 
 -- src/rates.rt:92:19
 pub overflow_sub-forward : goal.overflow_sub-forward
