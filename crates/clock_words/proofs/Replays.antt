@@ -66,7 +66,7 @@ pub replayed : (words : List Text) (arguments : List Item) → Some arguments �
 replayed words arguments e n readers reads k l m back crank utc lane b c u d apart =
     let s = said words arguments e in
     let so : replay_in words ≡ by_arguments arguments back crank utc lane =
-        rw (b s.back s.back_is, c s.crank s.crank_is, u s.utc s.utc_is, d s.lane s.lane_is) s.is in
+    rw (b s.back s.back_is, c s.crank s.crank_is, u s.utc s.utc_is, d s.lane s.lane_is) s.is in
     sym (so ∙ rw (apart, sym k, sym l, sym m) refl)
 
 -- a crank and a lane make none

@@ -62,7 +62,17 @@ pub fn play_on_lane<R: Threads + Sync, G: Gate, L: Ledger + Send>(
     };
     let mut logs = open(alloc, desk, &plan, steps_for(events, options.ticks))?;
     play_lane(
-        rt, desk, freq, &items, &mut daemon, &mut lane, options, &mut got, &mut logs, gate, steps,
+        rt,
+        desk,
+        freq,
+        &items,
+        &mut daemon,
+        &mut lane,
+        options,
+        &mut got,
+        &mut logs,
+        gate,
+        steps,
     );
     Ok(logs)
 }

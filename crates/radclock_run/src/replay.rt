@@ -184,10 +184,7 @@ pub fn replay<R: Threads + Sync, K: Sink, G: Gate, L: Ledger + Send>(
     let mut steps = steps;
     match play_file(rt, alloc, file, options, lane, &mut steps, desk, gate) {
         Ok(replayed) => {
-            let Replayed {
-                logs,
-                daemon,
-            } = replayed;
+            let Replayed { logs, daemon } = replayed;
             let mut telling = Estimates {
                 version: file.head.version,
                 daemon,

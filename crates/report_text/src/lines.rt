@@ -216,9 +216,7 @@ fn head(h: ReportHead) -> LineText
             version,
         } => {
             add_version_part(&mut line, version);
-            add_options_part(
-                &mut line, ticks, readers, reads, back, crank, utc, lane,
-            );
+            add_options_part(&mut line, ticks, readers, reads, back, crank, utc, lane);
             line.number(freq);
             line.word(b"report replay freq ");
         }

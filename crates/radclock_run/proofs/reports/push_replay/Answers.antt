@@ -43,7 +43,7 @@ returns g c =
     let logs = entries_of c.args.logs.now in
     let front = (told ++ tick_lines 0 ticks) ++ log_lines 0 logs in
     let end : ℕ → ℕ → ℕ → EndCounts = λ a r n.
-        record { accepted = a; refused = r; ticks = Some (length ticks); entries = Some n; fired = None } in
+    record { accepted = a; refused = r; ticks = Some (length ticks); entries = Some n; fired = None } in
     let two = wrote-on _ _ _ _ _ _ _ _ c.in_ok-tally.ensures.lines c.in_ok-push_journal.ensures in
     let three = wrote-on _ _ _ _ _ _ _ _ two c.in_ok-push_logs.ensures in
     let mid = c.push_logs.new.sink in
