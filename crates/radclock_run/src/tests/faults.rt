@@ -9,7 +9,7 @@ use std::test::Fail;
 use std::thread::Threads;
 
 /// Command lines that print the same at each run, and whether they read the input.
-static COMMANDS: [(&str, bool); 10] = [
+static COMMANDS: [(&str, bool); 11] = [
     ("stamps", true),
     ("rtt", true),
     ("estimate", true),
