@@ -1,5 +1,4 @@
 """What the clocks of a journal read, in whole numbers, by the rules of docs/CLOCK.md; and how times are written."""
-from bisect import bisect_left, bisect_right
 from datetime import datetime, timedelta, timezone
 
 from report import GRAINS
@@ -40,34 +39,19 @@ def is_inserted(tick, count):
     return tick.leap == 1 and tick.due < count and absolute(tick, count) < absolute(tick, tick.due) + GRAINS
 
 
-def rate_bound(tick, counts):
-    return div_ceil(counts * tick.period * tick.rate_error, 10**12)
+def bound_by(tick):
+    """The bound of the absolute clock by a tick, as a function of the count."""
+    error, growth, update = tick.error * GRAINS_PER_NANO, tick.period * tick.rate_error, tick.update
+    return lambda count: error - ((update - count) * growth // 10**12 if count > update else 0)  # rounded up
 
 
 def time_bound(tick, count):
-    return tick.error * GRAINS_PER_NANO + rate_bound(tick, max(count - tick.update, 0))
+    return bound_by(tick)(count)
 
 
 def is_bounded(tick):
     """Whether the bound says anything: not before the first estimate, nor where its error had no room."""
     return "U" not in tick.marks
-
-
-def reach(report):
-    """The greatest count that the counter is known to have come to while the journal's last tick was the newest."""
-    counts = [report.ticks[-1].count]
-    counts += [r.count for r in report.readings if r.kind != "diff"]
-    counts += [a.met for a in report.aheads]
-    return max(counts)
-
-
-def current(ticks, count):
-    """
-    The numbers of the ticks that are current at a count. A past count is read by the first of them: the last tick
-    whose count is below, or the first tick. The others are the ticks of that very count.
-    """
-    counts = [tick.count for tick in ticks]
-    return range(max(bisect_left(counts, count) - 1, 0), bisect_right(counts, count))
 
 
 def exact(grains):
@@ -77,20 +61,25 @@ def exact(grains):
 
 
 def nanos_floor(grains):
-    return grains * NANOS // GRAINS
+    return grains * NANOS >> 64
 
 
 def nanos_ceil(grains):
-    return div_ceil(grains * NANOS, GRAINS)
+    return -(-grains * NANOS >> 64)
+
+
+def day_of(seconds, between=" "):
+    """The day and time of a second since 1970, or None where no calendar has it."""
+    if seconds not in SECONDS_OF_DATES:
+        return None
+    return (EPOCH + timedelta(seconds=seconds)).strftime(f"%Y-%m-%d{between}%H:%M:%S").rjust(19, "0")
 
 
 def date(nanos):
     """Nanoseconds since 1970 as a date, or as seconds where no calendar has them."""
     seconds, rest = divmod(nanos, NANOS)
-    if seconds not in SECONDS_OF_DATES:
-        return f"{seconds} s and {rest} ns since 1970"
-    day = EPOCH + timedelta(seconds=seconds)
-    return f"{day:%Y-%m-%d %H:%M:%S}.{rest:09d} UTC".rjust(33, "0")
+    day = day_of(seconds)
+    return f"{day}.{rest:09d} UTC" if day else f"{seconds} s and {rest} ns since 1970"
 
 
 def utc_date(tick, count):

@@ -1,5 +1,7 @@
 """`look at`: what the clocks read at counts, exactly."""
 import clock
+from frequency import warning
+from journal import Journal
 from report import Wrong
 
 
@@ -27,23 +29,37 @@ def tick_lines(tick, count):
     yield "marks", f"clock {tick.clock_marks} estimate {tick.marks}"
 
 
-def lines_at(report, count):
-    furthest = clock.reach(report)
-    numbers = clock.current(report.ticks, count)
-    if not numbers or count > furthest:
-        first = report.ticks[0].count
-        yield f"count {count}: the journal does not reach it, only from {first} to {furthest}"
-        return
-    for number in numbers:
-        tick = report.ticks[number]
-        past = ", by which a past count is read" if len(numbers) > 1 and number == numbers[0] else ""
-        yield f"count {count} tick {number} {tick.how}{past}"
+def how_told(tick, number, ticks, is_beyond):
+    """Behind the number of a tick: how it came about, and what is special of it at the count."""
+    if is_beyond:
+        return f"{tick.how}, the last one: the journal does not reach the count"
+    return tick.how + (", by which a past count is read" if len(ticks) > 1 and number == 0 else "")
+
+
+def lines_at(journal, count):
+    """What the ticks that are current at a count tell of it."""
+    ticks = journal.current(count)
+    for number, tick in enumerate(ticks):
+        yield f"count {count} tick {tick.number} {how_told(tick, number, ticks, journal.is_beyond(count))}"
         for name, value in tick_lines(tick, count):
             yield f"  {name:<13} {value}"
 
 
-def lines(report, counts):
-    """The lines of all counts, in turn."""
+def is_reached(journal, count, beyond):
+    return not journal.is_before(count) and (beyond or not journal.is_beyond(count))
+
+
+def lines(report, counts, beyond=False):
+    """The lines of all counts, in turn, and whether all are reached. Where the frequency is wrong, that is the first line."""
     if not report.ticks:
         raise Wrong("no ticks: `at` needs a report of ticks or replay")
-    return [line for count in counts for line in lines_at(report, count)]
+    journal = Journal(report)
+    reached = [count for count in counts if is_reached(journal, count, beyond)]
+    wrong = warning((tick for count in reached for tick in journal.current(count)), report.frequency)
+    told = [f"WARNING: {wrong}"] if wrong else []
+    for count in counts:
+        if is_reached(journal, count, beyond):
+            told += lines_at(journal, count)
+        else:
+            told.append(f"count {count}: the journal does not reach it, only from {journal.counts[0]} to {journal.reach}")
+    return told, len(reached) == len(counts)

@@ -3,12 +3,9 @@ from collections import Counter
 from fractions import Fraction
 
 import clock
+from exchanges import system_lines
+from frequency import parts_in_million, warning
 from report import GRAINS, HOWS, KINDS, TESTS
-
-
-def parts_in_million(period, frequency):
-    """How far a counter of this period is from its nominal frequency. Above 0 it is fast."""
-    return (Fraction(GRAINS, period) / frequency - 1) * 10**6
 
 
 def by_name(names, found):
@@ -82,11 +79,18 @@ def clock_lines(report):
         yield "Ahead", str(len(report.aheads))
 
 
-def lines(report):
-    """The lines of the summary."""
-    told = [("Counter", f"{report.frequency} Hz")]
+def texts(told):
+    return [f"{name:<14}: {value}" for name, value in told]
+
+
+def lines(report, exchanges=None):
+    """The lines of the summary. Where the frequency is wrong, that is the first one."""
+    wrong = warning((report.estimates or report.ticks)[-1:], report.frequency)
+    told = [("WARNING", wrong)] if wrong else []
+    told += [("Counter", f"{report.frequency} Hz")]
     told += last_estimate(report) if report.accepted else [("Time", "no estimate")]
     told += leap_lines(report) if report.version == 2 else []
     told += stamp_lines(report)
     told += clock_lines(report)
-    return [f"{name:<14}: {value}" for name, value in told]
+    told += system_lines(report, exchanges) if exchanges else []
+    return texts(told)

@@ -8,7 +8,6 @@ import subprocess
 import sys
 import tempfile
 import unittest
-import xml.etree.ElementTree
 from datetime import datetime, timedelta
 from fractions import Fraction
 
@@ -28,7 +27,7 @@ def data(name):
 
 def look(words, text=None):
     """Status, output and errors of the command, with the text as its standard input."""
-    out, err = io.StringIO(), io.StringIO()
+    out, err = io.TextIOWrapper(io.BytesIO(), encoding="utf-8", newline=""), io.StringIO()
     given = io.TextIOWrapper(io.BytesIO((text or "").encode()))
     before, sys.stdin = sys.stdin, given
     try:
@@ -36,7 +35,8 @@ def look(words, text=None):
             status = cli.main(words)
     finally:
         sys.stdin = before
-    return status, out.getvalue(), err.getvalue()
+    out.seek(0)
+    return status, out.read(), err.getvalue()
 
 
 # ---- A replay by hand: the rules of docs/CLOCK.md once more, over the plain words of tick lines ----
@@ -193,9 +193,32 @@ class At(unittest.TestCase):
             self.assertEqual(block[name], f"{day} UTC = {text_of(time)}".replace(" UTC", f".{nanos % 10**9:09d} UTC"))
 
     def test_nothing_is_said_past_the_journal(self):
-        status, out, _ = look(["at", "4611686018427387903"], data("ticks.txt"))
-        self.assertEqual(status, 0)
-        self.assertIn("the journal does not reach it", out)
+        status, out, _ = look(["at", "5", "4611686018427387903"], data("ticks.txt"))
+        self.assertEqual(status, 1)
+        self.assertIn("count 5 tick 1 reset\n", out)
+        self.assertTrue(out.endswith("count 4611686018427387903: the journal does not reach it, only from 0 to 921602732478\n"))
+
+    def test_the_last_tick_tells_what_is_beyond(self):
+        last = data("ticks.txt").splitlines()[-2]
+        count = int(last.split(" ")[3]) + 10**15
+        status, out, err = look(["at", "--beyond", str(count)], data("ticks.txt"))
+        self.assertEqual((status, err), (0, ""))
+        self.assertTrue(out.startswith(f"count {count} tick 71 take, the last one: the journal does not reach the count\n"))
+        block = re.search(r"absolute .* = (.*)\n(?:.*\n){2}.*bound +.* = (\d+) grains", out)
+        self.assertEqual(block.groups(), (text_of(hand_value(last, "abs", count)), str(hand_bound(last, "abs", count))))
+
+    def test_counts_from_files(self):
+        ticks = os.path.join(DATA, "ticks.txt")
+        expected = look(["at", "38402164328", "500000000000"], data("ticks.txt"))
+        self.assertEqual(look(["at", "-f", ticks], "38402164328\n 500000000000\n"), expected)
+        self.assertEqual(look(["at", "-f", ticks, "--counts", "-", "38402164328"], "500000000000"), expected)
+        with tempfile.TemporaryDirectory() as folder:
+            path = os.path.join(folder, "counts")
+            with open(path, "w", encoding="ascii") as file:
+                file.write("500000000000\n")
+            self.assertEqual(look(["at", "38402164328", "--counts", path], data("ticks.txt")), expected)
+        for words, text in ((["--counts", "-"], ""), (["--counts", "-", "-f", ticks], "5 x"), (["-f", ticks], str(2**62))):
+            WrongInput.refused(self, ["at", *words], text)
 
     def test_no_bound_before_the_first_estimate(self):
         out = look(["at", "5"], data("ticks.txt"))[1]
@@ -374,46 +397,6 @@ class WrongInput(unittest.TestCase):
         run = subprocess.run([sys.executable, os.path.join(HERE, "look"), "summary"], input=b"\xff\n", capture_output=True)
         self.assertEqual((run.returncode, run.stdout), (1, b""))
         self.assertEqual(len(run.stderr.splitlines()), 1)
-
-
-class Plot(unittest.TestCase):
-    def setUp(self):
-        try:
-            import plot  # noqa: F401
-        except Wrong as wrong:
-            self.skipTest(str(wrong))
-
-    def titles(self, words, text):
-        with tempfile.TemporaryDirectory() as folder:
-            path = os.path.join(folder, "picture.svg")
-            self.assertEqual(look(["plot", path, *words], text), (0, "", ""))
-            return " ".join(xml.etree.ElementTree.parse(path).getroot().itertext())
-
-    def test_all_that_is_told_is_drawn(self):
-        drawn = self.titles(["-f", "-", "-f", os.path.join(DATA, "rtt.txt")], hand_replay(0))
-        for title in ("Round trips", "frequency, from nominal", "uninterrupted clock, from the absolute one",
-                      "Readings, from the absolute clock", "Intervals that were read"):
-            self.assertIn(title, drawn)
-
-    def test_sets_are_marked(self):
-        with tempfile.TemporaryDirectory() as folder:
-            words = ["-f", "-"]
-            for name in ("rtt", "ticks"):
-                path = os.path.join(folder, name)
-                with open(path, "w", encoding="ascii") as file:
-                    file.write(SECOND[name])
-                words += ["-f", path]
-            self.assertEqual(self.titles(words, SECOND["estimate"]).split().count("set"), 3)
-
-    def test_no_more_is_drawn(self):
-        self.assertNotIn("Readings", self.titles([], data("ticks.txt")))
-
-    def test_wrong_input(self):
-        WrongInput.refused(self, ["plot", "picture.png"], data("ticks.txt"))
-        WrongInput.refused(self, ["plot", os.path.join(DATA, "none", "picture.svg")], data("ticks.txt"))
-        WrongInput.refused(self, ["plot", "x.svg"], "report rtt freq 1000000000\nend accepted 0 refused 0\n")
-        WrongInput.refused(self, ["plot", "x.svg", "-f", "-", "-f", os.path.join(DATA, "rtt.txt")],
-                           "report rtt freq 1000000000\nend accepted 0 refused 0\n")
 
 
 if __name__ == "__main__":
