@@ -26,7 +26,7 @@ test-tools: tools
 bench: $(RADCLOCK)
 	python3 bench/bench.py $(RADCLOCK)
 
-# The program as it was built, the tools, and a page of the manual for each. The gate sets the built program aside, so `build`
+# The program as it was built, the tools, and the program's page of the manual. The gate sets the built program aside, so `build`
 # comes first.
 install: $(RADCLOCK) tools
 	install -d $(DEST)/bin $(DEST)/lib/radclock/look $(DEST)/share/man/man1
@@ -34,7 +34,7 @@ install: $(RADCLOCK) tools
 	install -m 644 $(filter-out tools/look/test_%,$(wildcard tools/look/*.py)) $(DEST)/lib/radclock/look
 	install -m 755 tools/look/look $(DEST)/lib/radclock/look
 	ln -sf ../lib/radclock/look/look $(DEST)/bin/look
-	install -m 644 docs/man/radclock.1 docs/man/look.1 docs/man/collect.1 $(DEST)/share/man/man1
+	install -m 644 docs/man/radclock.1 $(DEST)/share/man/man1
 
 clean:
 	$(MAKE) -C tools/collect clean
