@@ -23,6 +23,10 @@ tools:
 test-tools: tools
 	set -e; for tool in tools/*/test_*.py; do (cd "$$(dirname "$$tool")" && python3 -m unittest -q "$$(basename "$$tool" .py)"); done
 
+# The built program over the real captures of sample/.
+test-samples: $(RADCLOCK)
+	python3 tools/test_samples.py
+
 bench: $(RADCLOCK)
 	python3 bench/bench.py $(RADCLOCK)
 
@@ -40,4 +44,4 @@ clean:
 	$(MAKE) -C tools/collect clean
 	rm -rf crates/*/out
 
-.PHONY: try check build tools test-tools bench install clean
+.PHONY: try check build tools test-tools test-samples bench install clean

@@ -17,16 +17,17 @@
 struct options {
     const char *server;
     const char *port;
-    const char *file; /* that goes on, or NULL */
-    long exchanges;   /* how many are tried */
-    long spacing;     /* from one to the next, in ms */
-    long wait;        /* for a reply, in ms */
-    long telling;     /* from one line of progress to the next, in s */
-    bool raw_clock;   /* the counter is CLOCK_MONOTONIC_RAW */
-    bool first;       /* the file is of version 1 */
-    bool plain;       /* counts are those at the calls */
-    bool quiet;       /* no lines of progress */
-    bool now;         /* the counter alone is wanted */
+    const char *file;    /* that goes on, or NULL */
+    const char *capture; /* of all packets, or NULL */
+    long exchanges;      /* how many are tried */
+    long spacing;        /* from one to the next, in ms */
+    long wait;           /* for a reply, in ms */
+    long telling;        /* from one line of progress to the next, in s */
+    bool raw_clock;      /* the counter is CLOCK_MONOTONIC_RAW */
+    bool first;          /* the file is of version 1 */
+    bool plain;          /* counts are those at the calls */
+    bool quiet;          /* no lines of progress */
+    bool now;            /* the counter alone is wanted */
 };
 
 struct totals {
@@ -196,6 +197,7 @@ static int usage(void)
           "       collect --now [-m] [-a FILE]\n"
           "  -1  the file is of version 1, without strata and leap seconds\n"
           "  -a  goes on with this file, which was taken by the same counter\n"
+          "  -r  writes a capture of all packets to this new file\n"
           "  -p  the server's port (123)\n"
           "  -n  how many exchanges are tried, 1 to 65536 (500)\n"
           "  -i  from one to the next in ms, 100 to 3600000 (16000)\n"
@@ -222,6 +224,7 @@ static bool read_option(int letter, struct options *o)
     switch (letter) {
     case '1': o->first = true; return true;
     case 'a': o->file = optarg; return true;
+    case 'r': o->capture = optarg; return true;
     case 'p': o->port = optarg; return true;
     case 'n': return number(optarg, 1, 65536, &o->exchanges);
     case 'i': return number(optarg, 100, 3600000, &o->spacing);
@@ -242,7 +245,7 @@ static bool read_words(int argc, char **argv, struct options *o)
     *o = (struct options){.port = "123", .exchanges = 500, .spacing = 16000, .wait = 1000,
                           .telling = 60};
     int letter;
-    while ((letter = getopt_long(argc, argv, "1a:p:n:i:w:e:mq", longs, NULL)) != -1) {
+    while ((letter = getopt_long(argc, argv, "1a:r:p:n:i:w:e:mq", longs, NULL)) != -1) {
         if (!read_option(letter, o)) return false;
     }
     if (o->wait > o->spacing) o->wait = o->spacing;
@@ -267,13 +270,16 @@ int main(int argc, char **argv)
     if (!reach(&server, o.server, o.port, o.plain)) return 1;
     struct counter counter = pick_counter(o.raw_clock, 1000);
     struct file file = {.first = o.first, .stamped = server.stamped};
+    struct record record;
     server.counter = &counter;
     struct totals t = {0};
     setvbuf(stdout, NULL, _IOLBF, 0);
     if (o.file == NULL) begin_file(&file, &counter);
     else if (!take_over(o.file, &file, &counter) || !go_on_with(o.file, &file)) return 1;
+    if (o.capture != NULL && !begin_record(&record, o.capture, &counter)) return 1;
+    server.record = o.capture == NULL ? NULL : &record;
     bool whole = collect(&server, &file, &o, &t);
     tell_totals(&t, server.stamped);
-    bool closed = fclose(stdout) == 0;
+    bool closed = (o.capture == NULL || end_record(&record)) && fclose(stdout) == 0;
     return whole && closed && t.written > 0 ? 0 : 1;
 }

@@ -4,6 +4,7 @@
 
 #include <stdbool.h>
 #include <stdint.h>
+#include <stdio.h>
 #include <time.h>
 
 #define NANOS_PER_SECOND 1000000000u
@@ -28,10 +29,13 @@ struct counter pick_counter(bool raw_clock, long measured_ms);
 
 /* ---- exchange.c ---- */
 
+enum { PACKET_BYTES = 48 }; /* of a request, and at least of a reply */
+
 struct server {
     int socket;
     const struct counter *counter;
-    bool stamped; /* the system stamps what comes and goes */
+    bool stamped;          /* the system stamps what comes and goes */
+    struct record *record; /* of all packets, or NULL */
 };
 
 struct server_time {
@@ -59,6 +63,22 @@ enum verdict { GOOD, NO_REPLY, NOBODY, UNUSABLE, KISS };
 
 bool reach(struct server *server, const char *name, const char *port, bool plain);
 enum verdict exchange(const struct server *server, long wait, struct exchange *e, long *foreign);
+
+/* ---- record.c ---- */
+
+struct record {
+    const char *path;
+    FILE *file;
+    FILE *heard; /* what came before the reply of the exchange that is open, or NULL */
+    char *text;
+    size_t size;
+};
+
+bool begin_record(struct record *record, const char *path, const struct counter *counter);
+void hear(struct record *record, uint64_t count, const unsigned char *packet, size_t bytes);
+void put_exchange(struct record *record, const struct exchange *e, const unsigned char *request,
+                  const unsigned char *reply, size_t bytes);
+bool end_record(struct record *record);
 
 /* ---- file.c ---- */
 

@@ -13,7 +13,7 @@
 #include <sys/socket.h>
 #include <unistd.h>
 
-enum { PACKET_BYTES = 48, DATAGRAM_BYTES = 1024, CONTROL_BYTES = 512 };
+enum { DATAGRAM_BYTES = 1024, CONTROL_BYTES = 512 };
 
 #define UNIX_EPOCH INT64_C(2208988800) /* from 1900 to 1970, in seconds */
 #define ERA INT64_C(4294967296)        /* seconds of an era of NTP */
@@ -260,31 +260,48 @@ static ssize_t receive_reply(const struct server *server, unsigned char *reply, 
     return bytes;
 }
 
+struct datagram {
+    unsigned char bytes[DATAGRAM_BYTES];
+    ssize_t size;
+};
+
+/* Waits for the reply to this request until this time of CLOCK_MONOTONIC, in ns. */
+static enum verdict await(const struct server *server, const unsigned char *request, uint64_t until,
+                          struct exchange *e, struct datagram *reply, long *foreign)
+{
+    uint64_t departure = 0, arrival;
+    while (has_come(server->socket, until)) {
+        reply->size = receive_reply(server, reply->bytes, &e->received, &arrival);
+        int error = errno;
+        if (server->stamped) departure = latest_departure(server->socket, departure);
+        if (reply->size < 0 && (error == EAGAIN || error == EINTR)) continue;
+        if (reply->size < 0) return error == ECONNREFUSED ? NOBODY : NO_REPLY;
+        enum verdict verdict = judge(request, reply->bytes, reply->size, e);
+        if (verdict == KISS) say_kiss(reply->bytes);
+        if (verdict == GOOD && server->stamped) {
+            move_to_stamps(server->counter, e, departure, arrival);
+        }
+        if (verdict != NO_REPLY) return verdict;
+        hear(server->record, e->received.count, reply->bytes, (size_t)reply->size);
+        ++*foreign;
+    }
+    return NO_REPLY;
+}
+
 /*
  * One request, and what comes of it. The counter is read right before the request is handed to the
  * system, and right behind each datagram, before it is looked at.
  */
 enum verdict exchange(const struct server *server, long wait, struct exchange *e, long *foreign)
 {
-    unsigned char request[PACKET_BYTES], reply[DATAGRAM_BYTES];
+    unsigned char request[PACKET_BYTES];
+    struct datagram reply;
     uint64_t until = clock_nanos(CLOCK_MONOTONIC) + (uint64_t)wait * 1000000;
-    uint64_t departure = 0, arrival;
     if (!make_request(request)) return NO_REPLY;
     forget_what_is_late(server);
     if (!send_request(server, request, &e->sent)) return errno == ECONNREFUSED ? NOBODY : NO_REPLY;
-    while (has_come(server->socket, until)) {
-        ssize_t bytes = receive_reply(server, reply, &e->received, &arrival);
-        int error = errno;
-        if (server->stamped) departure = latest_departure(server->socket, departure);
-        if (bytes < 0 && (error == EAGAIN || error == EINTR)) continue;
-        if (bytes < 0) return error == ECONNREFUSED ? NOBODY : NO_REPLY;
-        enum verdict verdict = judge(request, reply, bytes, e);
-        if (verdict == KISS) say_kiss(reply);
-        if (verdict == GOOD && server->stamped) {
-            move_to_stamps(server->counter, e, departure, arrival);
-        }
-        if (verdict != NO_REPLY) return verdict;
-        ++*foreign;
-    }
-    return NO_REPLY;
+    enum verdict verdict = await(server, request, until, e, &reply, foreign);
+    bool came = verdict != NO_REPLY && verdict != NOBODY;
+    put_exchange(server->record, e, request, came ? reply.bytes : NULL, came ? (size_t)reply.size : 0);
+    return verdict;
 }

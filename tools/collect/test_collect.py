@@ -123,6 +123,44 @@ class Collect(unittest.TestCase):
         run = subprocess.run([PROGRAM, "-p", port, "-n", "2", "-i", "100", "-m", "127.0.0.1"], capture_output=True, text=True)
         self.assertEqual((run.returncode, self.totals(run)), (1, [2, 0, 2, 0, 0]))
 
+    def records(self, path):
+        """The frequency of a capture, and count, direction and packet of each record."""
+        with open(path, "rb") as file:
+            text = file.read()
+        self.assertEqual(text[:8], b"RADCAP01")
+        records, place = [], 16
+        while place < len(text):
+            count, received, size = struct.unpack("!QBH", text[place:place + 11])
+            records.append((count, received, text[place + 11:place + 11 + size]))
+            place += 11 + size
+        self.assertEqual(place, len(text))
+        return int.from_bytes(text[8:16], "big"), records
+
+    def test_a_capture(self):
+        sent = []
+
+        def answers(i, request):
+            foreign = reply(request, origin=bytes(8))
+            sent.append([[reply(request)], [foreign, b"short", reply(request) + b"more"], [], [reply(request, first=0xE4)]][i])
+            return sent[i]
+
+        with tempfile.TemporaryDirectory() as folder:
+            path = os.path.join(folder, "packets.radcap")
+            run, requests, stamps = collect(answers, "-n", "4", "-r", path)
+            frequency, records = self.records(path)
+            again, asked, _ = collect(answers, "-n", "1", "-r", path)
+        self.assertEqual((run.returncode, self.totals(run)), (0, [4, 2, 1, 2, 1]))
+        self.assertEqual(run.stdout.splitlines()[1], f"freq {frequency}")
+        said = [(received, packet) for _, received, packet in records]
+        due = []
+        for request, datagrams in zip(requests, sent):
+            due += [(0, request)] + [(1, datagram) for datagram in datagrams if len(datagram) >= 48]
+        self.assertEqual(said, due)
+        counts = [str(count) for count, *_ in records]
+        first, second = (stamp.split(" ") for stamp in stamps)
+        self.assertEqual((counts[0], counts[1], counts[2], counts[4]), (first[0], first[3], second[0], second[3]))
+        self.assertEqual((again.returncode, asked), (1, []))
+
     def test_words(self):
         for words in ([], ["a", "b"], ["-n", "0", "a"], ["-n", "65537", "a"], ["-i", "99", "a"], ["-w", "x", "a"], ["-x", "a"]):
             run = subprocess.run([PROGRAM, *words], capture_output=True, text=True)

@@ -18,7 +18,8 @@ use Rattle.capture_text.specs.ReadBack.{IsAnswerInRange, stamp_of_exchange, stam
 use Rattle.capture_text.specs.Text.{version_text, freq_text, exchange_row, exchange_text, unused_text}
 use Rattle.capture_text.specs.declared.inputs.Answer.{Answer}
 use Rattle.capture_text.specs.declared.inputs.Answer.TheVariants as answer
-use Rattle.capture_text.proofs.ReadBack.{decimal-differs, row-differs, as_it_stands, line_says-row, line_says-comment}
+use Rattle.report_text.proofs.ReadBack.{decimal-differs}
+use Rattle.capture_text.proofs.ReadBack.{row-differs, as_it_stands, line_says-row, line_says-comment}
 
 -- a comment and the line of the frequency, without their line ends
 abbrev unused_row : ℕ → List ℕ

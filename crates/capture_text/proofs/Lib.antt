@@ -5,3 +5,4 @@ pub mod Listing
 pub mod Pieces
 pub mod ReadBack
 pub mod FileLaws
+pub mod Ranges

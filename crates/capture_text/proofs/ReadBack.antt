@@ -1,81 +1,31 @@
 -- What the grammar of stamp files says of the line of an exchange.
 use Rattle.std.proofs.Common.{◌≡◌, ℕ, ◌+◌, ◌-◌, ◌<◌, ◌≤◌, ◌^◌, ltb, ◌==◌, ◌&&◌, ◌||◌, true, false, cond, eqb, None, Some, Ok, Err, List, [], ◌∷◌, ◌++◌, length, take, drop, codes, decimal, refl, ap, sym, subst, ◌∙◌, append_assoc, length-append, arith}
 use Rattle.std.specs.Str.{bytes_eq}
-use Rattle.std.specs.List.{All, position_or_len, before_first, after_first}
-use Rattle.std.proofs.Math.Seq.{take-append_seam, drop-append-add, get_or-append_seam}
-use Rattle.std.proofs.Math.ListN.{get_or-append}
+use Rattle.std.specs.List.{All}
 use Rattle.std.proofs.lemmas.Bool.{and_parts}
 use Rattle.std.proofs.lemmas.Bool.Decides.{nat_tests}
-use Rattle.std.proofs.lemmas.Fmt.{decimal_nonempty, length-decimal-le}
+use Rattle.std.proofs.lemmas.Fmt.{length-decimal-le}
 use Rattle.std.proofs.lemmas.List.Elements.{All-cons, All-append, All-drop}
 use Rattle.std.proofs.lemmas.List.Splits.{slice_split_none, slice_split_at}
-use Rattle.std.proofs.lemmas.List.Sums.{position_or_len_is}
-use Rattle.stamp_text.proofs.PlaceLaws.{time_cut}
 use Rattle.stamp_text.specs.Cut.{without_return}
 use Rattle.stamp_text.specs.Digits.{number_in, is_digit, all_digits}
 use Rattle.stamp_text.specs.Grammar.{version_says, freq_says, is_skipped, item_at, text_says, line_says}
 use Rattle.stamp_text.specs.Items.{stamp_item, item_in, item_of_pieces, set_says, leap_says, two_of}
 use Rattle.stamp_text.specs.Stamps.{pieces_of, is_empty, stamp_within, stamp_of_numbers, stamp_of_pieces}
-use Rattle.stamp_text.specs.Times.{is_point, time_in, nanos_in, written_of}
+use Rattle.stamp_text.specs.Times.{time_in}
 use Rattle.stamp_text.specs.declared.lines.Line.TheVariants as gives
 use Rattle.stamp_text.specs.declared.lines.Item.TheVariants as item
 use Rattle.stamp_text.specs.declared.lines.Why.TheVariants as why
 use Rattle.ntp_capture.specs.declared.exchanges.Exchange.{Exchange}
-use Rattle.report_text.specs.Text.{nanos_text, written_text}
-use Rattle.report_text.proofs.Digits.{all_digits-decimal, all_digits-nanos, length-nanos, digits-differ, number_in-decimal, nanos_in-nanos}
-use Rattle.capture_text.specs.ReadBack.{IsTimeInRange, IsExchangeInRange, stamp_of_exchange}
+use Rattle.report_text.specs.Text.{written_text}
+use Rattle.report_text.proofs.Digits.{all_digits-decimal, number_in-decimal}
+use Rattle.report_text.proofs.ReadBack.{decimal-differs, written-differs, time_in-written, is_empty-decimal, is_empty-written, written-length, not_that_byte, not_skipped}
+use Rattle.capture_text.specs.ReadBack.{IsExchangeInRange, stamp_of_exchange}
 use Rattle.capture_text.specs.Text.{exchange_row}
-
--- a time, and a line, with what is behind each number together
-written_text-parts : (t : ℕ × ℕ) → written_text t ≡ decimal t.0 ++ (46 ∷ nanos_text t.1)
-written_text-parts t = append_assoc (decimal t.0) (46 ∷ []) (nanos_text t.1)
 
 exchange_row-parts : (e : Exchange) → exchange_row e ≡ decimal e.ta ++ (32 ∷ (written_text e.tb ++ (32 ∷ (written_text e.te ++ (32 ∷ (decimal e.tf ++ (32 ∷ (decimal e.stratum ++ (32 ∷ decimal e.leap)))))))))
 unfolding exchange_row
 exchange_row-parts e = simp append_assoc
-
--- a byte that is in no number, and in no time
-pub decimal-differs : (c n : ℕ) → c < 48 → n < 2 ^ 64 → All (λ b. eqb b c ≡ false) (decimal n)
-decimal-differs c n low fits = digits-differ c (decimal n) low (all_digits-decimal n fits)
-
-written-differs : (c : ℕ) (t : ℕ × ℕ) → c < 48 → eqb 46 c ≡ false → IsTimeInRange t → All (λ b. eqb b c ≡ false) (written_text t)
-written-differs c t low other is =
-    let nanos = digits-differ c (nanos_text t.1) low (all_digits-nanos t.1 is.1) in
-    let behind = All-cons (λ b. eqb b c ≡ false) 46 (nanos_text t.1) other nanos in
-    subst (All (λ b. eqb b c ≡ false)) (sym (written_text-parts t))
-    (All-append (λ b. eqb b c ≡ false) (decimal t.0) (46 ∷ nanos_text t.1) (decimal-differs c t.0 low (omega arith)) behind)
-
--- the first point behind a text without one
-first_point : (ws fs : List ℕ) → All (λ b. is_point b ≡ false) ws → position_or_len is_point (ws ++ (46 ∷ fs)) ≡ length ws
-first_point ws fs none =
-    let text : List ℕ = ws ++ (46 ∷ fs) in
-    position_or_len_is is_point text (length ws) 0 (omega (arith, length-append ws (46 ∷ fs)))
-    (λ k below. ap is_point (get_or-append ws (46 ∷ fs) 0 k below) ∙ none k 0 below)
-    (λ inside. ap is_point (get_or-append_seam ws 46 fs 0))
-
--- a time is read back
-time_in-written : (t : ℕ × ℕ) → IsTimeInRange t → time_in (written_text t) ≡ Some (record { sec = t.0; nanos = t.1 })
-time_in-written t is =
-    let ws = decimal t.0 in
-    let fs = nanos_text t.1 in
-    let text : List ℕ = ws ++ (46 ∷ fs) in
-    let at = first_point ws fs (decimal-differs 46 t.0 (omega arith) (omega arith)) in
-    let before : ws ≡ before_first is_point text = sym (ap (λ k. take k text) at ∙ take-append_seam ws (46 ∷ fs)) in
-    let after : fs ≡ after_first is_point text = sym (ap (λ k. drop (k + 1) text) at ∙ drop-append-add ws (46 ∷ fs) 1) in
-    let cut = time_cut text ws fs (omega (arith, at, length-append ws (46 ∷ fs))) before after in
-    ap time_in (written_text-parts t) ∙ cut ∙ ap (λ s. written_of s (nanos_in fs)) (number_in-decimal t.0 (omega arith))
-    ∙ ap (written_of (Some t.0)) (nanos_in-nanos t.1 is.1)
-
--- a text with bytes
-not_empty : (bs : List ℕ) → 0 < length bs → is_empty bs ≡ false
-not_empty [] some = absurd (omega arith)
-not_empty (b ∷ bs) some = refl
-
-is_empty-decimal : (n : ℕ) → n < 2 ^ 64 → is_empty (decimal n) ≡ false
-is_empty-decimal n fits = not_empty (decimal n) (decimal_nonempty n fits)
-
-is_empty-written : (t : ℕ × ℕ) → is_empty (written_text t) ≡ false
-is_empty-written t = not_empty (written_text t) (omega (arith, ap length (written_text-parts t), length-append (decimal t.0) (46 ∷ nanos_text t.1)))
 
 -- six pieces with bytes
 six_pieces : (a b c d e f : List ℕ) → is_empty a ≡ false → is_empty b ≡ false → is_empty c ≡ false → is_empty d ≡ false → is_empty e ≡ false
@@ -155,16 +105,6 @@ row-differs c e low point space within =
     let tb = behind _ (All-append P (written_text e.tb) _ (written-differs c e.tb low point within.tb) te) in
     subst (All P) (sym (exchange_row-parts e)) (All-append P (decimal e.ta) _ (decimal-differs c e.ta low (omega (arith, within.ta))) tb)
 
--- a line has bytes, and at most 255
-written-length : (t : ℕ × ℕ) → IsTimeInRange t → length (written_text t) ≤ 30
-written-length t is = omega (
-  arith,
-  ap length (written_text-parts t),
-  length-append (decimal t.0) (46 ∷ nanos_text t.1),
-  length-nanos t.1 is.1,
-  length-decimal-le 20 t.0 (omega arith) (omega arith) (omega arith),
-)
-
 length-joined : (a b c d e f : List ℕ) → length (a ++ (32 ∷ (b ++ (32 ∷ (c ++ (32 ∷ (d ++ (32 ∷ (e ++ (32 ∷ f)))))))))) ≡ length a + length b + length c + length d + length e + length f + 5
 length-joined a b c d e f = simp length-append (omega arith)
 
@@ -182,21 +122,11 @@ row-length e within =
     let sum = ap length (exchange_row-parts e) ∙ length-joined (decimal e.ta) (written_text e.tb) (written_text e.te) (decimal e.tf) (decimal e.stratum) (decimal e.leap) in
     (omega arith, omega arith)
 
--- a text is not a byte that it does not have
-not_that_byte : (c : ℕ) (xs : List ℕ) → All (λ b. eqb b c ≡ false) xs → bytes_eq xs (c ∷ []) ≡ false
-not_that_byte c [] differs = refl
-not_that_byte c (x ∷ xs) differs = ap (λ t. t && bytes_eq xs []) (differs 0 0 (omega arith))
-
 -- a line without a carriage return is as it stands
 pub as_it_stands : (line : List ℕ) → All (λ b. eqb b 13 ≡ false) line → without_return line ≡ line
 as_it_stands line differs =
     let no_return = not_that_byte 13 (drop (length line - 1) line) (All-drop (λ b. eqb b 13 ≡ false) (length line - 1) line differs) in
     ap (λ t. cond t (take (length line - 1) line) line) no_return
-
--- a text that does not begin with the sign of a comment
-not_skipped : (xs : List ℕ) → 0 < length xs → All (λ b. eqb b 35 ≡ false) xs → is_skipped xs ≡ false
-not_skipped [] some differs = absurd (omega arith)
-not_skipped (x ∷ xs) some differs = differs 0 0 (omega arith)
 
 -- what a line behind the head says that is not too long and has no carriage return
 line_says-entry : (n : ℕ) (line : List ℕ) → 3 ≤ n → length line ≤ 255 → without_return line ≡ line

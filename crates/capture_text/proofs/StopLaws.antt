@@ -20,7 +20,7 @@ use Rattle.capture_text.specs.declared.inputs.CaptureStop.TheVariants as stop
 use Rattle.capture_text.proofs.GatherLaws.{answers-more}
 
 -- more units give no fewer stamps
-stamps-grow : (ps more : List Piece) → exchanges_in (answers_of ps) ≤ exchanges_in (answers_of (ps ++ more))
+pub stamps-grow : (ps more : List Piece) → exchanges_in (answers_of ps) ≤ exchanges_in (answers_of (ps ++ more))
 stamps-grow ps [] = subst (λ qs. exchanges_in (answers_of ps) ≤ exchanges_in (answers_of qs)) (sym (append-nil ps)) (omega arith)
 stamps-grow ps (p ∷ more) =
     let rest = stamps-grow (ps ++ p ∷ []) more in
@@ -31,7 +31,7 @@ stamps-grow ps (p ∷ more) =
     subst (λ qs. exchanges_in (answers_of ps) ≤ exchanges_in (answers_of qs)) same (omega arith)
 
 -- a text gives what its front gives, and more
-given-more : (t v : List ℕ) → (more : List Piece) × (given (t ++ v) ≡ given t ++ more)
+pub given-more : (t v : List ℕ) → (more : List Piece) × (given (t ++ v) ≡ given t ++ more)
 unfolding given
 given-more t v =
     let split : (f : Option CapFault) → fault_so_far t ≡ f → (more : List Piece) × (given (t ++ v) ≡ given t ++ more) =
@@ -45,13 +45,13 @@ given-more t v =
     split (fault_so_far t) refl
 
 -- too many stamps
-many-stops : (ps : List Piece) (f : Option CapFault) → most_exchanges < exchanges_in (answers_of ps) → stop_by ps f ≡ Some (stop.ManyExchanges)
+pub many-stops : (ps : List Piece) (f : Option CapFault) → most_exchanges < exchanges_in (answers_of ps) → stop_by ps f ≡ Some (stop.ManyExchanges)
 many-stops ps f many =
     let test : ltb most_exchanges (exchanges_in (answers_of ps)) ≡ true = grind (arith, nat_tests) in
     ap (λ t. cond t (Some (stop.ManyExchanges)) (option_map stop.Fault f)) test
 
 -- no more than there may be
-few-stops : (ps : List Piece) (f : Option CapFault) → exchanges_in (answers_of ps) ≤ most_exchanges → stop_by ps f ≡ option_map stop.Fault f
+pub few-stops : (ps : List Piece) (f : Option CapFault) → exchanges_in (answers_of ps) ≤ most_exchanges → stop_by ps f ≡ option_map stop.Fault f
 few-stops ps f few =
     let test : ltb most_exchanges (exchanges_in (answers_of ps)) ≡ false = grind (arith, nat_tests) in
     ap (λ t. cond t (Some (stop.ManyExchanges)) (option_map stop.Fault f)) test
@@ -93,6 +93,20 @@ limit-alone ps f s h =
     ] in
     split (ltb most_exchanges (exchanges_in (answers_of ps))) h
 
+-- units without a fault are stopped by the limit alone
+limit-passed : (ps : List Piece) (s : CaptureStop) → stop_by ps None ≡ Some s → most_exchanges < exchanges_in (answers_of ps)
+limit-passed ps s h =
+    let split : (b : Bool) → ltb most_exchanges (exchanges_in (answers_of ps)) ≡ b → cond b (Some stop.ManyExchanges) None ≡ Some s
+    → most_exchanges < exchanges_in (answers_of ps) =
+    elim [
+      | true ↦ λ e g. grind (arith, nat_tests)
+      | false ↦ λ e g. absurd (cc)
+    ] in
+    split (ltb most_exchanges (exchanges_in (answers_of ps))) refl h
+
+limit-is : (ps : List Piece) (s : CaptureStop) → stop_by ps None ≡ Some s → Some s ≡ Some stop.ManyExchanges
+limit-is ps s h = sym h ∙ many-stops ps None (limit-passed ps s h)
+
 -- what stops bytes that may go on stops the capture that ends there
 pub within-stops : (t : List ℕ) (s : CaptureStop) → stop_within t ≡ Some s → stop_of_capture t ≡ Some s
 unfolding stop_within stop_of_capture
@@ -101,5 +115,22 @@ within-stops t s stops =
     elim [
       | None ↦ λ e h. limit-alone (given t) (fault_of_capture t) s h
       | Some f ↦ λ e h. ap (λ (u : List ℕ). stop_by (given t) (fault_of_capture u)) (sym (append-nil t)) ∙ ap (stop_by (given t)) (fault-of-all t f e []) ∙ h
+    ] in
+    split (fault_so_far t) refl stops
+
+-- and more bytes behind them do not hide it
+pub stop_within-stays : (t v : List ℕ) (s : CaptureStop) → stop_within t ≡ Some s → stop_within (t ++ v) ≡ Some s
+unfolding stop_within
+stop_within-stays t v s stops =
+    let split : (f : Option CapFault) → fault_so_far t ≡ f → stop_by (given t) f ≡ Some s → stop_by (given (t ++ v)) (fault_so_far (t ++ v)) ≡ Some s =
+    elim [
+      | None ↦ λ e h. many-stops (given (t ++ v)) (fault_so_far (t ++ v))
+          (let more = given-more t v in
+          let many = limit-passed (given t) s h in
+          subst (λ ps. most_exchanges < exchanges_in (answers_of ps)) (sym more.1) (omega (arith, many, stamps-grow (given t) more.0)))
+          ∙ sym (limit-is (given t) s h)
+      | Some f ↦ λ e h.
+          let stays = refused-stays t v f e in
+          ap (λ ps. stop_by ps (fault_so_far (t ++ v))) stays.given ∙ ap (stop_by (given t)) stays.fault ∙ h
     ] in
     split (fault_so_far t) refl stops

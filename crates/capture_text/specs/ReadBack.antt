@@ -5,18 +5,20 @@ use Rattle.ntp_capture.specs.declared.exchanges.Exchange.{Exchange}
 use Rattle.stamp_text.specs.declared.lines.Line.{Line}
 use Rattle.stamp_text.specs.declared.lines.Line.TheVariants as gives
 use Rattle.stamp_text.specs.declared.lines.Stamp.{Stamp}
+use Rattle.stamp_maker.specs.MadeStamps.{IsTimePair}
 use Rattle.capture_text.specs.declared.inputs.Answer.{Answer}
 use Rattle.capture_text.specs.declared.inputs.Answer.TheVariants as answer
 
--- seconds below 2^32, and nanoseconds below 10^9
-abbrev pub IsTimeInRange : ℕ × ℕ → Type 0
-IsTimeInRange t = (t.0 < 2 ^ 32) × (t.1 < 1000000000)
+-- what eight bits hold
+abbrev pub IsByte : ℕ → Type 0
+IsByte b = b < 256
 
--- counters below 2^62, such times, a stratum of one byte, and a leap indicator of two bits
+-- counters below 2^62, times of seconds below 2^32 and of nanoseconds below 10^9, a stratum of one byte, and a leap
+-- indicator of two bits
 pub record IsExchangeInRange (e : Exchange) : Type 0 where
   pub ta : e.ta < 2 ^ 62
-  pub tb : IsTimeInRange e.tb
-  pub te : IsTimeInRange e.te
+  pub tb : IsTimePair e.tb
+  pub te : IsTimePair e.te
   pub tf : e.tf < 2 ^ 62
   pub stratum : e.stratum < 256
   pub leap : e.leap < 4

@@ -1,9 +1,6 @@
 -- The lines that a capture becomes.
 use Rattle.std.specs.Prelude.{ℕ, List, ◌++◌, codes, decimal}
 use Rattle.ntp_capture.specs.declared.exchanges.Exchange.{Exchange}
-use Rattle.ntp_capture.specs.declared.pieces.CapFault.{CapFault}
-use Rattle.ntp_capture.specs.declared.pieces.CapWhy.{CapWhy}
-use Rattle.ntp_capture.specs.declared.pieces.CapWhy.TheVariants as cap_why
 use Rattle.report_text.specs.Text.{written_text}
 
 -- the first line of a stamp file of version 2
@@ -27,15 +24,3 @@ exchange_text e = exchange_row e ++ codes "\n"
 -- the comment on a reply that takes no request, with the index of its record
 unfoldable pub unused_text : ℕ → List ℕ
 unused_text index = codes "# unused " ++ decimal index ++ codes "\n"
-
-abbrev pub cap_why_name : CapWhy → List ℕ
-cap_why_name cap_why.Head = codes "head"
-cap_why_name cap_why.Freq = codes "freq"
-cap_why_name cap_why.Counter = codes "counter"
-cap_why_name cap_why.Direction = codes "direction"
-cap_why_name cap_why.Short = codes "short"
-cap_why_name cap_why.Cut = codes "cut"
-
--- the one line of a capture that is refused
-unfoldable pub capture_fault_text : CapFault → List ℕ
-capture_fault_text f = codes "fault capture " ++ decimal f.at ++ codes " " ++ cap_why_name f.why ++ codes "\n"

@@ -7,7 +7,6 @@ mod inputs;
 mod keeps;
 mod laws;
 mod lines;
-mod names;
 mod pushes;
 #[cfg(test)]
 mod tests;
@@ -16,8 +15,8 @@ mod worked;
 
 pub use inputs::{Answer, CaptureFile, CaptureStop, MOST_EXCHANGES};
 pub use keeps::{end_capture, take_piece};
-pub use laws::capture_files_are_read;
-pub use lines::{capture_fault_line, exchange_line, freq_line, unused_line, version_line};
+pub use laws::{capture_files_are_read, captures_become_stamp_files};
+pub use lines::{exchange_line, freq_line, unused_line, version_line};
 pub use pushes::push_stamps;
 pub use whole::read_capture;
 pub use worked::{capture_answers_are_worked, capture_lines_are_worked};

@@ -1,10 +1,9 @@
-// The lines of the stamp file that a capture becomes, and the one line of a capture that is refused. Each call
-// makes one whole line with its line end, in a text that is lent to it, and pushes it at once.
+// The lines of the stamp file that a capture becomes. Each call makes one whole line with its line end, in a text
+// that is lent to it, and pushes it at once.
 ghost use Rattle.std.specs.Prelude.{◌<◌};
-ghost use Rattle.capture_text.specs.Text.{version_text, freq_text, exchange_text, unused_text, capture_fault_text};
+ghost use Rattle.capture_text.specs.Text.{version_text, freq_text, exchange_text, unused_text};
 
-use crate::names::cap_why_name;
-use ntp_capture::{CapFault, Exchange};
+use ntp_capture::Exchange;
 use rad_io::{Failed, Sink};
 use report_text::LineText;
 
@@ -58,23 +57,5 @@ pub fn unused_line<K: Sink>(sink: &mut K, line: &mut LineText, index: u64) -> Re
     line.word(b"\n");
     line.number(index);
     line.word(b"# unused ");
-    sink.push(line.bytes())
-}
-
-/// Pushes the one line of a capture that is refused: where its first fault stands, and why.
-#[tactic(auto, unfolding(crate::specs::Text::capture_fault_text))]
-pub fn capture_fault_line<K: Sink>(
-    sink: &mut K,
-    line: &mut LineText,
-    fault: CapFault,
-) -> Result<(), Failed>
-    ensures { K.push_gives sink.old (capture_fault_text fault) result sink.new }
-{
-    line.clear();
-    line.word(b"\n");
-    line.word(cap_why_name(fault.why));
-    line.word(b" ");
-    line.number(fault.at);
-    line.word(b"fault capture ");
     sink.push(line.bytes())
 }

@@ -2,10 +2,10 @@
 ghost use Rattle.std.specs.List.{All};
 ghost use Rattle.capture_text.specs.Inputs.{IsAnswerTimed};
 
-use crate::{CaptureFile, CaptureStop, capture_fault_line, push_stamps, read_capture};
+use crate::{CaptureFile, CaptureStop, push_stamps, read_capture};
 use ntp_capture::{CapFault, CapWhy};
 use rad_io::{Failed, MemSink};
-use report_text::LineText;
+use report_text::{FaultText, fault_line};
 use std::alloc::Global;
 use std::process::Abort;
 use std::test::Fail;
@@ -103,7 +103,7 @@ fn stops(
         Some(CaptureStop::Fault(fault))
     );
     let mut sink = MemSink::new(alloc, 64, Vec::new(alloc))?;
-    let answer = capture_fault_line(&mut sink, &mut LineText::new(), fault);
+    let answer = fault_line(&mut sink, &FaultText::Capture(fault));
     assert_eq!(rt; answer, Ok(()));
     let line = String::from_utf8_lossy(alloc, sink.written())?;
     assert_eq!(rt; line.as_str(), due);

@@ -5,7 +5,7 @@ ghost use Rattle.ntp_capture.specs.declared.pieces.CapWhy.TheVariants as why;
 ghost use Rattle.capture_text.specs.Files.{stamp_lines};
 ghost use Rattle.capture_text.specs.Inputs.{answers_of, freq_after, stop_by};
 ghost use Rattle.capture_text.specs.Samples.{exchange, pieces};
-ghost use Rattle.capture_text.specs.Text.{exchange_text, unused_text, capture_fault_text};
+ghost use Rattle.capture_text.specs.Text.{exchange_text, unused_text};
 ghost use Rattle.capture_text.specs.declared.inputs.Answer.TheVariants as answer;
 ghost use Rattle.capture_text.specs.declared.inputs.CaptureStop.TheVariants as stop;
 
@@ -13,9 +13,6 @@ ghost use Rattle.capture_text.specs.declared.inputs.CaptureStop.TheVariants as s
 pub fn capture_lines_are_worked()
     ensures exchange { exchange_text exchange ≡ codes "10 20.000030000 21.031000000 40 5 3\n" }
     ensures unused { unused_text 2 ≡ codes "# unused 2\n" }
-    ensures cut { capture_fault_text (record { at = 75; why = why.Cut }) ≡ codes "fault capture 75 cut\n" }
-    ensures head { capture_fault_text (record { at = 0; why = why.Head }) ≡ codes "fault capture 0 head\n" }
-    ensures direction { capture_fault_text (record { at = 24; why = why.Direction }) ≡ codes "fault capture 24 direction\n" }
     ensures file { stamp_lines 2000000 (answer.Unused 7 ∷ answer.Exchange exchange ∷ []) ≡ codes "radclock-stamps 2\n"
         ∷ codes "freq 2000000\n" ∷ codes "# unused 7\n" ∷ codes "10 20.000030000 21.031000000 40 5 3\n" ∷ [] }
 {}

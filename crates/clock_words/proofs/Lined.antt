@@ -9,7 +9,7 @@ use Rattle.std.proofs.lemmas.Slice.Eq.{bytes_eq-Decides}
 use Rattle.stamp_text.specs.Digits.{is_number, number_in}
 use Rattle.clock_words.specs.Rows.{Text, Item, has, is_given, is_value, items_in, items_from}
 use Rattle.clock_words.specs.Parts.{AreOnce, AreParts, AreWritten, dashed, nothing, flag, apart, joined, placed}
-use Rattle.clock_words.specs.Lines.{IsLine, stamps, rtt, estimate, ticks, replay, make, run, ideal_run, bare_row, ticks_row, replay_row, make_row, run_row, back_name, crank_name, utc_name, lane_name, ideal_name, number_name, count_name, most_made, most_ran, within, number_within, ticks_told, timers_told, readers_told, reads_told, ticks_by, ticks_of, has_both, replay_by, replay_of, make_of, run_of, ideal_is_early, command_in}
+use Rattle.clock_words.specs.Lines.{IsLine, stamps, rtt, estimate, ticks, replay, make, run, ideal_run, capture, bare_row, ticks_row, replay_row, make_row, run_row, back_name, crank_name, utc_name, lane_name, ideal_name, number_name, count_name, most_made, most_ran, within, number_within, ticks_told, timers_told, readers_told, reads_told, ticks_by, ticks_of, has_both, replay_by, replay_of, make_of, run_of, ideal_is_early, command_in}
 use Rattle.clock_words.specs.declared.commands.Command.{Command}
 use Rattle.clock_words.specs.declared.commands.Command.TheVariants as command
 use Rattle.clock_words.specs.declared.commands.Report.{Report}
@@ -110,16 +110,16 @@ few_words left words items (placed n v l ws is u rest) e once = absurd (let q : 
 
 -- ---- from a command to a line
 
-bare_line : (r : Report) (name : Text) (words : List Text) (c : Command) → IsLine (name ∷ []) (command.Report r)
-    → option_map (λ items. command.Report r) (items_in bare_row words) ≡ Some c → IsLine (name ∷ words) c
-bare_line r name words c line e = by_items (items_in bare_row words) refl
+bare_line : (bare : Command) (name : Text) (words : List Text) (c : Command) → IsLine (name ∷ []) bare
+    → option_map (λ items. bare) (items_in bare_row words) ≡ Some c → IsLine (name ∷ words) c
+bare_line bare name words c line e = by_items (items_in bare_row words) refl
   where
     by_items : (x : Option (List Item)) → items_in bare_row words ≡ x → IsLine (name ∷ words) c
     by_items None f = absurd (let q : None ≡ Some c = sym (rw f refl) ∙ e in cc)
     by_items (Some items) f =
         let none : words ≡ [] = no_parts [] words items ((written bare_row refl words items).0 f).parts refl in
-        let same : Some (command.Report r) ≡ Some c = sym (rw f refl) ∙ e in
-        subst (λ (ws : List Text). IsLine (name ∷ ws) c) (sym none) (subst (IsLine (name ∷ [])) (let q : command.Report r ≡ c = cc in q) line)
+        let same : Some bare ≡ Some c = sym (rw f refl) ∙ e in
+        subst (λ (ws : List Text). IsLine (name ∷ ws) c) (sym none) (subst (IsLine (name ∷ [])) (let q : bare ≡ c = cc in q) line)
 
 ticks_line : (words : List Text) (c : Command) → option_and_then ticks_of (items_in ticks_row words) ≡ Some c → IsLine (codes "ticks" ∷ words) c
 ticks_line words c e = by_items (items_in ticks_row words) refl
@@ -258,13 +258,15 @@ to_line : (words : List Text) (c : Command) → command_in words ≡ Some c → 
 unfolding command_in
 to_line [] c e = absurd (let q : None ≡ Some c = e in cc)
 to_line (name ∷ words) c e =
-    named_line name (codes "stamps") words c _ _ (bare_line report.Stamps (codes "stamps") words c stamps)
-    (named_line name (codes "rtt") words c _ _ (bare_line report.Rtt (codes "rtt") words c rtt)
-    (named_line name (codes "estimate") words c _ _ (bare_line report.Estimate (codes "estimate") words c estimate)
+    named_line name (codes "stamps") words c _ _ (bare_line (command.Report report.Stamps) (codes "stamps") words c stamps)
+    (named_line name (codes "rtt") words c _ _ (bare_line (command.Report report.Rtt) (codes "rtt") words c rtt)
+    (named_line name (codes "estimate") words c _ _ (bare_line (command.Report report.Estimate) (codes "estimate") words c estimate)
     (named_line name (codes "ticks") words c _ _ (ticks_line words c)
     (named_line name (codes "replay") words c _ _ (replay_line words c)
     (named_line name (codes "make") words c _ _ (make_line words c)
-    (named_line name (codes "run") words c _ _ (run_line words c) (λ h. absurd (let q : None ≡ Some c = h in cc)))))))) e
+    (named_line name (codes "run") words c _ _ (run_line words c)
+    (named_line name (codes "capture") words c _ _ (bare_line command.Capture (codes "capture") words c capture)
+    (λ h. absurd (let q : None ≡ Some c = h in cc))))))))) e
 
 -- ---- from a line to a command
 
@@ -342,6 +344,7 @@ unfolding command_in items_in items_from
 to_command words c stamps = refl
 to_command words c rtt = refl
 to_command words c estimate = refl
+to_command words c capture = refl
 to_command words c (ticks rest items n timers w h k) = ap (option_and_then ticks_of) ((written ticks_row refl rest items).1 w) ∙ rw (h, k) refl
 to_command words c (replay rest items n readers reads w k l m b) =
     ap (option_and_then replay_of) ((written replay_row refl rest items).1 w)

@@ -162,9 +162,9 @@ make_of items = option_map (λ p. command.Make p.0 p.1) (places_told most_made i
 abbrev pub run_of : List Item → Option Command
 run_of items = option_map (λ p. command.Run p.0 p.1 (is_given ideal_name items)) (places_told most_ran items)
 
--- a report that has nothing behind its name
-abbrev pub bare_in : Report → List Text → Option Command
-bare_in r words = option_map (λ items. command.Report r) (items_in bare_row words)
+-- a command that has nothing behind its name
+abbrev pub bare_in : Command → List Text → Option Command
+bare_in c words = option_map (λ items. c) (items_in bare_row words)
 
 abbrev pub ticks_in : List Text → Option Command
 ticks_in words = option_and_then ticks_of (items_in ticks_row words)
@@ -184,7 +184,8 @@ run_in words = if ideal_is_early words then None else option_and_then run_of (it
 
 -- the names of the commands
 abbrev pub command_names : List Text
-command_names = codes "stamps" ∷ codes "rtt" ∷ codes "estimate" ∷ codes "ticks" ∷ codes "replay" ∷ codes "make" ∷ codes "run" ∷ []
+command_names = codes "stamps" ∷ codes "rtt" ∷ codes "estimate" ∷ codes "ticks" ∷ codes "replay" ∷ codes "make" ∷ codes "run"
+    ∷ codes "capture" ∷ []
 
 -- words begin with the name of a command
 abbrev pub begins_with_name : List Text → Bool
@@ -194,14 +195,15 @@ begins_with_name (name ∷ words) = has command_names name
 -- the command that has a name, with what the words behind it say
 abbrev pub command_named : Text → List Text → Option Command
 command_named name words =
-    if bytes_eq name (codes "stamps") then bare_in report.Stamps words
-    else (if bytes_eq name (codes "rtt") then bare_in report.Rtt words
-    else (if bytes_eq name (codes "estimate") then bare_in report.Estimate words
+    if bytes_eq name (codes "stamps") then bare_in (command.Report report.Stamps) words
+    else (if bytes_eq name (codes "rtt") then bare_in (command.Report report.Rtt) words
+    else (if bytes_eq name (codes "estimate") then bare_in (command.Report report.Estimate) words
     else (if bytes_eq name (codes "ticks") then ticks_in words
     else (if bytes_eq name (codes "replay") then replay_in words
     else (if bytes_eq name (codes "make") then make_in words
     else (if bytes_eq name (codes "run") then run_in words
-    else None))))))
+    else (if bytes_eq name (codes "capture") then bare_in command.Capture words
+    else None)))))))
 
 -- the command that words are, if they are a line
 unfoldable pub command_in : List Text → Option Command
@@ -225,6 +227,7 @@ pub data IsLine : List Text → Command → Type 0 where
       → IsLine (codes "run" ∷ first ∷ second ∷ []) (command.Run number count false)
   ideal_run : (first second : Text) (number count : ℕ) → number_within 0 (2 ^ 32 - 1) first ≡ Some number
       → number_within 1 most_ran second ≡ Some count → IsLine (codes "run" ∷ first ∷ second ∷ codes "--ideal" ∷ []) (command.Run number count true)
+  capture : IsLine (codes "capture" ∷ []) command.Capture
 
 -- what is found is the command of a line, and nothing where words are no line
 abbrev pub IsCommandOf : List Text → Option Command → Type 0
@@ -243,4 +246,5 @@ IsReportInRange (report.Replay n readers reads back crank utc lane) = (n ≤ mos
 abbrev pub IsCommandInRange : Command → Type 0
 IsCommandInRange (command.Report r) = IsReportInRange r
 IsCommandInRange (command.Make number count) = (number < 2 ^ 32) × (1 ≤ count) × (count ≤ most_made)
+IsCommandInRange command.Capture = Unit {0}
 IsCommandInRange (command.Run number count ideal) = (number < 2 ^ 32) × (1 ≤ count) × (count ≤ most_ran)

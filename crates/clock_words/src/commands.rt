@@ -41,6 +41,8 @@ pub enum Report {
 pub enum Command {
     /// A report on the stamp file that is the input.
     Report(Report),
+    /// The stamp file that the capture of NTP packets becomes that is the input.
+    Capture,
     /// A file of so many made stamps, from 1 to 16,384, that are drawn from a number below 2^32.
     Make {
         number: u64,

@@ -2,7 +2,7 @@
 ghost use Rattle.std.specs.Prelude.{◌≡◌, ◌≤◌, ◌<◌, ◌^◌, ◌-◌, IfOk, IfErr, OnErr, IfSome, true, option_map};
 ghost use Rattle.clap.specs.Values.{kind_of};
 ghost use Rattle.clock_words.specs.Rows.{has, texts};
-ghost use Rattle.clock_words.specs.Lines.{IsCommandOf, IsCommandInRange, IsReportInRange, bare_in, ticks_in, replay_in, make_in, run_in, ideal_is_early, number_within, option_within, given_within, places_told, command_names, begins_with_name, command_named, command_in};
+ghost use Rattle.clock_words.specs.Lines.{IsCommandOf, IsCommandInRange, bare_in, ticks_in, replay_in, make_in, run_in, ideal_is_early, number_within, option_within, given_within, places_told, command_names, begins_with_name, command_named, command_in};
 
 use crate::rows::{self, Arguments};
 use crate::{Command, Report};
@@ -79,15 +79,15 @@ fn given_within(most: u64, text: Option<&str>) -> Option<Option<u32>>
     }
 }
 
-// A report whose command has nothing behind its name.
-fn bare<'a>(alloc: Global, report: Report, words: &'a [&'a str]) -> Result<Option<Command>, Error>
-    requires { IsReportInRange report }
-    ensures value { IfOk result (λ found. found ≡ bare_in report (texts words.entry.now)) }
+// A command that has nothing behind its name.
+fn bare<'a>(alloc: Global, command: Command, words: &'a [&'a str]) -> Result<Option<Command>, Error>
+    requires { IsCommandInRange command }
+    ensures value { IfOk result (λ found. found ≡ bare_in command (texts words.entry.now)) }
     ensures ranged { IfOk result (λ found. IfSome found IsCommandInRange) }
     ensures memory { IfErr result (λ e. kind_of e ≡ ErrorKind.OutOfMemory) }
 {
     match rows::bare(alloc, words)? {
-        Some(_) => Ok(Some(Command::Report(report))),
+        Some(_) => Ok(Some(command)),
         None => Ok(None),
     }
 }
@@ -218,13 +218,14 @@ fn command_named<'a>(
     ensures memory { IfErr result (λ e. kind_of e ≡ ErrorKind.OutOfMemory) }
 {
     match name {
-        "stamps" => bare(alloc, Report::Stamps, words),
-        "rtt" => bare(alloc, Report::Rtt, words),
-        "estimate" => bare(alloc, Report::Estimate, words),
+        "stamps" => bare(alloc, Command::Report(Report::Stamps), words),
+        "rtt" => bare(alloc, Command::Report(Report::Rtt), words),
+        "estimate" => bare(alloc, Command::Report(Report::Estimate), words),
         "ticks" => ticks(alloc, words),
         "replay" => replay(alloc, words),
         "make" => make(alloc, words),
         "run" => run(alloc, words),
+        "capture" => bare(alloc, Command::Capture, words),
         _ => Ok(None),
     }
 }

@@ -6,8 +6,8 @@ use Rattle.stamp_text.specs.Past.{Seen, accept_item, seen_of, seen_after, test_o
 use Rattle.stamp_text.specs.declared.accepts.Refused.{Refused}
 use Rattle.stamp_text.specs.declared.lines.Item.{Item}
 use Rattle.stamp_text.proofs.PastLaws.{seen-push}
-use Rattle.radclock_run.specs.declared.inputs.ItemLine.{ItemLine}
-use Rattle.radclock_run.specs.Inputs.{accepted_among}
+use Rattle.radclock_input.specs.declared.files.ItemLine.{ItemLine}
+use Rattle.radclock_input.specs.Inputs.{accepted_among}
 
 -- these are accepted up to line i, and with those of the rest they are all
 pub record Accepts (freq : ℕ) (lines : List ItemLine) (i : ℕ) (seen : Seen) (items : List Item) : Type 0 where

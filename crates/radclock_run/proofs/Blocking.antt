@@ -6,7 +6,8 @@ use Rattle.rad_io.specs.declared.Failed.{Failed}
 use Rattle.rad_io.proofs.InBlocks.{wrote-in-blocks, broke-in-blocks}
 use Rattle.clock_words.specs.declared.commands.Command.{Command}
 use Rattle.tick_desk.specs.declared.desk.Desk.{Desk}
-use Rattle.radclock_run.specs.Runs.{PushGives, ByLines, ByBlocks, Ran, ends_with, PullGives}
+use Rattle.radclock_input.specs.Pulled.{PullGives}
+use Rattle.radclock_run.specs.Runs.{PushGives, ByLines, ByBlocks, Ran, ends_with}
 use Rattle.radclock_run.specs.declared.status.Status.{Status}
 use Rattle.radclock_run.specs.declared.status.Status.TheVariants as status
 use Rattle.radclock_run.proofs.Running.{by-writes}

@@ -17,8 +17,8 @@ use Rattle.callouts.specs.Firings.{asked_timers, firing_list, firings}
 use Rattle.radclock_run.specs.Gathered.{is_estimate}
 use Rattle.ff_estimator.proofs.Events.{fold-told}
 use Rattle.ff_estimator.proofs.Folds.{length-fold_of}
-use Rattle.radclock_run.specs.declared.inputs.ItemLine.{ItemLine}
-use Rattle.radclock_run.specs.Inputs.{accepted_among}
+use Rattle.radclock_input.specs.declared.files.ItemLine.{ItemLine}
+use Rattle.radclock_input.specs.Inputs.{accepted_among}
 use Rattle.radclock_run.specs.Reports.{Outcome, outcome_of, outcomes, ticks_counts, is_stamp, is_taken, refused_in}
 use Rattle.radclock_run.proofs.Progress.{answer_to}
 

@@ -22,19 +22,24 @@ use Rattle.tick_desk.specs.Shows.{PenShows}
 use Rattle.tick_desk.specs.declared.desk.Desk.{Desk}
 use Rattle.replay_run.specs.declared.plan.Options.{Options}
 use Rattle.ideal_world.specs.declared.deviations.Deviation.{Deviation}
-use Rattle.radclock_run.specs.Inputs.{takes_few, stop_of_file, freq_of_file, items_of_file}
+use Rattle.radclock_input.specs.Captured.{capture_so_far, stop_of_packets}
+use Rattle.radclock_input.specs.Inputs.{stop_so_far, stop_of_file, freq_of_file, items_of_file}
+use Rattle.radclock_input.specs.Pulled.{PullGives, StopsIn, ReadsTo, StopsBehind, broke_off, at_end, in_piece, out_of_memory}
+use Rattle.radclock_run.specs.Asks.{takes_few}
 use Rattle.radclock_run.specs.MadeRuns.{run_by}
 use Rattle.radclock_run.specs.Endings.{Leaves, replay_by}
-use Rattle.radclock_run.specs.Runs.{PushGives, ByLines, ByBlocks, Writing, Headline, Holds, HoldsDone, HoldsShort, IsDue, Ran, done_lines, ends_with, lines_due, status_due, PullGives, ReadsTo, StopsBehind, broke_off, at_end, in_piece, out_of_memory}
-use Rattle.radclock_run.specs.InBytes.{WasRead, WasDone, reported, filed, summarised, HeadlineInBytes, RunInBytes, TruthInBytes, MakesNone, WasFree}
+use Rattle.radclock_run.specs.Runs.{PushGives, ByLines, ByBlocks, Writing, Headline, Holds, HoldsDone, HoldsShort, IsDue, Ran, done_lines, ends_with, lines_due, status_due}
+use Rattle.radclock_run.specs.InBytes.{WasRead, WasConverted, WasDone, reported, converted, filed, summarised, HeadlineInBytes, RunInBytes, TruthInBytes, MakesNone, WasFree}
 use Rattle.radclock_run.specs.Statuses.{status_by}
 use Rattle.radclock_run.specs.Replays.{MadeTruth}
-use Rattle.radclock_run.specs.declared.inputs.Stop.{Stop}
+use Rattle.radclock_input.specs.declared.stops.Stop.{Stop}
 use Rattle.radclock_run.specs.declared.ran.Asked.{Asked}
 use Rattle.radclock_run.specs.declared.status.Status.{Status}
 use Rattle.radclock_run.specs.declared.status.Status.TheVariants as status
-use Rattle.radclock_run.proofs.Sound.{is-sound, not-done}
-use Rattle.radclock_run.proofs.Stopping.{stop_of_file-stays}
+use Rattle.radclock_input.proofs.PacketLaws.{is-sound-capture, stop_of_packets-stays}
+use Rattle.radclock_input.proofs.Sound.{is-sound}
+use Rattle.radclock_input.proofs.Stopping.{stop_of_file-stays}
+use Rattle.radclock_run.proofs.NotDone.{not-done}
 
 -- a count that is free did not rise
 not-rose : (before now : ℕ) → WasFree before now → Rose before now → ⊥
@@ -58,12 +63,12 @@ whole-done None e = refl
 whole-done (Some s) e = absurd (not-done s e)
 
 -- a whole input was read to its end
-read-whole : (limited : Bool) (text : List ℕ) (answer : Result ℕ Failed) (s : Option Stop) → StopsBehind limited text answer s → s ≡ None
-    → (answer ≡ Ok 0) × (stop_of_file limited text ≡ None)
-read-whole limited text answer s broke_off e = absurd (cc)
-read-whole limited text answer s at_end e = (refl, e)
-read-whole limited text answer s (in_piece n t some found) e = absurd (cc)
-read-whole limited text answer s (out_of_memory n) e = absurd (cc)
+read-whole : (front whole : StopsIn) (text : List ℕ) (answer : Result ℕ Failed) (s : Option Stop) → StopsBehind front whole text answer s → s ≡ None
+    → (answer ≡ Ok 0) × (whole text ≡ None)
+read-whole front whole text answer s broke_off e = absurd (cc)
+read-whole front whole text answer s at_end e = (refl, e)
+read-whole front whole text answer s (in_piece n t some found) e = absurd (cc)
+read-whole front whole text answer s (out_of_memory n) e = absurd (cc)
 
 -- where all lines went out, the status is the one that was due
 went-out : (due result : Status) (answer : Result (Unit {0}) Failed) → result ≡ ends_with due answer → result ≡ status.Done → (answer ≡ Ok tt)
@@ -100,9 +105,9 @@ module _ {S : Type 0} (left : S → Option (List ℕ)) (faults : S → ℕ) (pul
       (Consumes-kept (left old) (left mid) (left new) front before (consumes mid new last.room last.filled (Err e) last.gives))
 
   -- the bytes of a text were taken from what was left
-  pub read-bytes : (limited : Bool) (old : S) (text : List ℕ) (s : Option Stop) (new : S) → ReadsTo pull limited old text s new
+  pub read-bytes : (front whole : StopsIn) (old : S) (text : List ℕ) (s : Option Stop) (new : S) → ReadsTo pull front whole old text s new
       → Consumes (left old) (left new) text
-  read-bytes limited old text s new reads =
+  read-bytes front whole old text s new reads =
       subst (Consumes (left old) (left new)) (sym reads.whole) (piece-bytes old reads.mid new reads.front reads.piece reads.answer
       (took-by 4096 old reads.front reads.mid reads.pulls).bytes reads.last)
 
@@ -122,24 +127,25 @@ module _ {S : Type 0} (left : S → Option (List ℕ)) (faults : S → ℕ) (pul
       omega (arith, here.failed, same)
 
   -- the input alone stops a reading of a told input that counts no fault, or want of memory
-  stop-by : (limited : Bool) (old mid new : S) (text piece all : List ℕ) (answer : Result ℕ Failed) (s : Option Stop) → left old ≡ Some all
+  stop-by : (front whole : StopsIn) → ((text more : List ℕ) (s : Stop) → front text ≡ Some s → whole (text ++ more) ≡ Some s)
+      → (old mid new : S) (text piece all : List ℕ) (answer : Result ℕ Failed) (s : Option Stop) → left old ≡ Some all
       → WasFree (faults old) (faults new) → Consumes (left old) (left new) text → faults mid ≡ faults old
       → (last : Pulled pull 4096 mid answer piece new) → length last.filled ≡ 4096
-      → StopsBehind limited text answer s → (status_by s ≡ status_by (stop_of_file limited all)) ⊎ (status_by s ≡ status.NoMemory)
-  stop-by limited old mid new text piece all answer s told free bytes same last full broke_off =
+      → StopsBehind front whole text answer s → (status_by s ≡ status_by (whole all)) ⊎ (status_by s ≡ status.NoMemory)
+  stop-by front whole stays old mid new text piece all answer s told free bytes same last full broke_off =
       absurd (not-rose (faults old) (faults new) free (pull-rose old mid new last.room last.filled (record {}) same last.gives))
-  stop-by limited old mid new text piece all answer s told free bytes same last full at_end =
-      inl (ap (λ t. status_by (stop_of_file limited t)) (sym (taken-whole (left old) (left new) text all told bytes
-      (end-bytes mid new piece (Ok 0) last full refl))))
-  stop-by limited old mid new text piece all answer s told free bytes same last full (in_piece n t some found) =
+  stop-by front whole stays old mid new text piece all answer s told free bytes same last full at_end =
+      inl (ap (λ t. status_by (whole t)) (sym (taken-whole (left old) (left new) text all told bytes (end-bytes mid new piece (Ok 0) last full refl))))
+  stop-by front whole stays old mid new text piece all answer s told free bytes same last full (in_piece n t some found) =
       let rest = taken-all (left old) (left new) text all told bytes in
-      inl (ap status_by (sym (ap (stop_of_file limited) rest.1 ∙ stop_of_file-stays limited text rest.0 t found)))
-  stop-by limited old mid new text piece all answer s told free bytes same last full (out_of_memory n) = inr refl
+      inl (ap status_by (sym (ap whole rest.1 ∙ stays text rest.0 t found)))
+  stop-by front whole stays old mid new text piece all answer s told free bytes same last full (out_of_memory n) = inr refl
 
-  pub read-stops : (limited : Bool) (old : S) (text : List ℕ) (s : Option Stop) (new : S) (all : List ℕ) → ReadsTo pull limited old text s new
-      → left old ≡ Some all → WasFree (faults old) (faults new) → (status_by s ≡ status_by (stop_of_file limited all)) ⊎ (status_by s ≡ status.NoMemory)
-  read-stops limited old text s new all reads told free =
-      stop-by limited old reads.mid new text reads.piece all reads.answer s told free (read-bytes limited old text s new reads)
+  pub read-stops : (front whole : StopsIn) → ((text more : List ℕ) (s : Stop) → front text ≡ Some s → whole (text ++ more) ≡ Some s)
+      → (old : S) (text : List ℕ) (s : Option Stop) (new : S) (all : List ℕ) → ReadsTo pull front whole old text s new
+      → left old ≡ Some all → WasFree (faults old) (faults new) → (status_by s ≡ status_by (whole all)) ⊎ (status_by s ≡ status.NoMemory)
+  read-stops front whole stays old text s new all reads told free =
+      stop-by front whole stays old reads.mid new text reads.piece all reads.answer s told free (read-bytes front whole old text s new reads)
       (took-by 4096 old reads.front reads.mid reads.pulls).same reads.last reads.sized reads.stops
 
 module _ {K : Type 0} (written : K → Option (List ℕ)) (faults : K → ℕ) (push : PushGives K)
@@ -195,11 +201,11 @@ module _ {S K : Type 0} (left : S → Option (List ℕ)) (pull_faults : S → �
       let none : ran.stopped ≡ None = elim ran.status_is [ inl due ↦ whole-done ran.stopped (sym due ∙ out.1) | inr short ↦ short.1 ] in
       elim ran.read [
         | inl reads ↦
-            let whole = read-whole (takes_few r) ran.text reads.answer ran.stopped reads.stops none in
+            let whole = read-whole _ _ ran.text reads.answer ran.stopped reads.stops none in
             let sound = is-sound (takes_few r) ran.text whole.1 in
             record {
               text = ran.text;
-              bytes = read-bytes left pull_faults pull consumes reads_cause (takes_few r) source ran.text ran.stopped source' reads;
+              bytes = read-bytes left pull_faults pull consumes reads_cause _ _ source ran.text ran.stopped source' reads;
               ended = end-bytes left pull_faults pull consumes reads_cause reads.mid source' reads.piece reads.answer reads.last reads.sized whole.0;
               sound = sound.sound;
               few_bytes = sound.few_bytes;
@@ -212,6 +218,29 @@ module _ {S K : Type 0} (left : S → Option (List ℕ)) (pull_faults : S → �
         | inr unread ↦ let e = sym none ∙ unread.1 in absurd (cc)
       ]
 
+  -- a capture that was converted
+  converted-done : (source source' : S) (sink sink' : K) (desk desk' : Desk) (result : Status) → Ran pull writes (Some command.Capture)
+      source source' sink sink' desk desk' result → result ≡ status.Done → WasConverted (left source) (left source') (written sink) (written sink') desk desk'
+  converted-done source source' sink sink' desk desk' result ran is =
+      let out = went-out ran.due result ran.answer ran.ended is in
+      let none : ran.stopped ≡ None = elim ran.status_is [ inl due ↦ whole-done ran.stopped (sym due ∙ out.1) | inr short ↦ short.1 ] in
+      elim ran.read [
+        | inl reads ↦
+            let whole = read-whole _ _ ran.text reads.answer ran.stopped reads.stops none in
+            let sound = is-sound-capture ran.text whole.1 in
+            record {
+              text = ran.text;
+              bytes = read-bytes left pull_faults pull consumes reads_cause _ _ source ran.text ran.stopped source' reads;
+              ended = end-bytes left pull_faults pull consumes reads_cause reads.mid source' reads.piece reads.answer reads.last reads.sized whole.0;
+              sound = sound.sound;
+              few_bytes = sound.few_bytes;
+              few_exchanges = sound.few_exchanges;
+              same = subst (λ due. Holds (Some command.Capture) due desk desk') out.1 ran.holds;
+              wrote = done-appends (Some command.Capture) ran.text ran.told desk'.pen sink sink' ran.due ran.answer ran.wrote out.0 out.1;
+            }
+        | inr unread ↦ let e = sym none ∙ unread.1 in absurd (cc)
+      ]
+
   -- what a done run read and wrote
   pub done-by : (asked : Option Command) (source source' : S) (sink sink' : K) (desk desk' : Desk) (result : Status) → Ran pull writes asked source
       source' sink sink' desk desk' result → result ≡ status.Done → WasDone (left source) (left source') (written sink) (written sink') desk desk' asked
@@ -220,6 +249,8 @@ module _ {S K : Type 0} (left : S → Option (List ℕ)) (pull_faults : S → �
       elim ran.status_is [ inl due ↦ let e = sym due ∙ out.1 in absurd (cc) | inr short ↦ let e = sym short.0 ∙ out.1 in absurd (cc) ]
   done-by (Some (command.Report r)) source source' sink sink' desk desk' result ran is =
       reported r refl (report-done r source source' sink sink' desk desk' result ran is)
+  done-by (Some command.Capture) source source' sink sink' desk desk' result ran is =
+      converted refl (converted-done source source' sink sink' desk desk' result ran is)
   done-by (Some (command.Make number count)) source source' sink sink' desk desk' result ran is =
       let out = went-out ran.due result ran.answer ran.ended is in
       let line = Some (command.Make number count) in
@@ -259,10 +290,10 @@ module _ {S K : Type 0} (left : S → Option (List ℕ)) (pull_faults : S → �
       let none : ran.stopped ≡ None = elim ran.status_is [ inl due ↦ whole-done ran.stopped (sym due ∙ out.1) | inr short ↦ short.1 ] in
       elim ran.read [
         | inl reads ↦
-            let whole = read-whole (takes_few r) ran.text reads.answer ran.stopped reads.stops none in
+            let whole = read-whole _ _ ran.text reads.answer ran.stopped reads.stops none in
             record {
               text = ran.text;
-              bytes = read-bytes left pull_faults pull consumes reads_cause (takes_few r) source ran.text ran.stopped source' reads;
+              bytes = read-bytes left pull_faults pull consumes reads_cause _ _ source ran.text ran.stopped source' reads;
               ended = end-bytes left pull_faults pull consumes reads_cause reads.mid source' reads.piece reads.answer reads.last reads.sized whole.0;
               printed = done-appends (Some (command.Report r)) ran.text ran.told desk'.pen sink sink' ran.due ran.answer ran.wrote out.0 out.1;
               holds = ran.truth out.1;
@@ -279,6 +310,7 @@ module _ {S K : Type 0} (left : S → Option (List ℕ)) (pull_faults : S → �
   none-short : (asked : Option Command) (desk desk' : Desk) → desk.pen.journal ≡ cold ∷ [] → HoldsShort asked desk desk' → desk'.pen.journal ≡ cold ∷ []
   none-short None desk desk' fresh holds = ap (λ (d : Desk). d.pen.journal) holds ∙ fresh
   none-short (Some (command.Report r)) desk desk' fresh holds = holds
+  none-short (Some command.Capture) desk desk' fresh holds = ap (λ (d : Desk). d.pen.journal) holds ∙ fresh
   none-short (Some (command.Make number count)) desk desk' fresh holds = ap (λ (d : Desk). d.pen.journal) holds ∙ fresh
   none-short (Some (command.Run number count ideal)) desk desk' fresh holds = holds
 
@@ -291,6 +323,7 @@ module _ {S K : Type 0} (left : S → Option (List ℕ)) (pull_faults : S → �
   none-at asked desk desk' status.WriteFault fresh not holds = absurd not
   none-at asked desk desk' status.NoMemory fresh not holds = none-short asked desk desk' fresh holds
   none-at asked desk desk' (status.TooLarge l) fresh not holds = ap (λ (d : Desk). d.pen.journal) holds ∙ fresh
+  none-at asked desk desk' (status.BadCapture f) fresh not holds = ap (λ (d : Desk). d.pen.journal) holds ∙ fresh
 
   none-of : (due result : Status) (answer : Result (Unit {0}) Failed) → result ≡ ends_with due answer → MakesNone result → MakesNone due
   none-of due result (Ok o) e none = subst MakesNone e none
@@ -346,8 +379,25 @@ module _ {S K : Type 0} (left : S → Option (List ℕ)) (pull_faults : S → �
       let e = as-due sink sink' _ ran.due result ran.answer free_sink ran.wrote ran.ended in
       elim ran.status_is [
         | inl due ↦ elim ran.read [
-          | inl reads ↦ elim (read-stops left pull_faults pull consumes reads_cause (takes_few r) source ran.text ran.stopped source' all reads told
+          | inl reads ↦ elim (read-stops left pull_faults pull consumes reads_cause (stop_so_far (takes_few r)) (stop_of_file (takes_few r))
+              (stop_of_file-stays (takes_few r)) source ran.text ran.stopped source' all reads told
               free_source) [ inl is ↦ inl (e ∙ due ∙ is) | inr memory ↦ inr (e ∙ due ∙ memory) ]
+          | inr unread ↦ inr (e ∙ due ∙ ap status_by unread.1)
+        ]
+        | inr short ↦ inr (e ∙ short.0)
+      ]
+
+  -- a told capture that no count of faults tells of ends as its bytes say, or for want of memory
+  pub converts-by : (all : List ℕ) (source source' : S) (sink sink' : K) (desk desk' : Desk) (result : Status) → Ran pull writes
+      (Some command.Capture) source source' sink sink' desk desk' result → left source ≡ Some all
+      → WasFree (pull_faults source) (pull_faults source') → WasFree (push_faults sink) (push_faults sink')
+      → (result ≡ status_by (stop_of_packets all)) ⊎ (result ≡ status.NoMemory)
+  converts-by all source source' sink sink' desk desk' result ran told free_source free_sink =
+      let e = as-due sink sink' _ ran.due result ran.answer free_sink ran.wrote ran.ended in
+      elim ran.status_is [
+        | inl due ↦ elim ran.read [
+          | inl reads ↦ elim (read-stops left pull_faults pull consumes reads_cause capture_so_far stop_of_packets stop_of_packets-stays source ran.text
+              ran.stopped source' all reads told free_source) [ inl is ↦ inl (e ∙ due ∙ is) | inr memory ↦ inr (e ∙ due ∙ memory) ]
           | inr unread ↦ inr (e ∙ due ∙ ap status_by unread.1)
         ]
         | inr short ↦ inr (e ∙ short.0)

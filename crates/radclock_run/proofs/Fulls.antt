@@ -16,8 +16,8 @@ use Rattle.ff_estimator.specs.declared.fulls.Event.TheVariants as event
 use Rattle.ff_estimator.specs.declared.fulls.Full.{Full}
 use Rattle.ff_estimator.specs.declared.fulls.Fed.TheVariants as fed
 use Rattle.ff_estimator.proofs.Events.{of-none, of-estimate, of-refused, of-set, of-leap}
-use Rattle.radclock_run.specs.declared.inputs.ItemLine.{ItemLine}
-use Rattle.radclock_run.specs.Inputs.{accepted_among}
+use Rattle.radclock_input.specs.declared.files.ItemLine.{ItemLine}
+use Rattle.radclock_input.specs.Inputs.{accepted_among}
 use Rattle.radclock_run.specs.Gathered.{Gathered, IsGathered}
 use Rattle.radclock_run.specs.Reports.{outcomes, refused_in}
 use Rattle.radclock_run.proofs.Progress.{count-next, count-done}

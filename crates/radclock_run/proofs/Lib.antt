@@ -1,11 +1,4 @@
-pub mod Heads
-pub mod Accepting
-pub mod Admitting
 pub mod Accepted
-pub mod Stopping
-pub mod Gathering
-pub mod Pieces
-pub mod Underway
 pub mod Progress
 pub mod Fulls
 pub mod Counted
@@ -18,7 +11,7 @@ pub mod Playing
 pub mod Told
 pub mod Truth
 pub mod Texts
-pub mod Sound
+pub mod NotDone
 pub mod Running
 pub mod Blocking
 pub mod Endings

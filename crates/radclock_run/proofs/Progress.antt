@@ -12,7 +12,7 @@ use Rattle.stamp_text.specs.declared.lines.Head.{Head}
 use Rattle.stamp_text.specs.declared.lines.Item.{Item}
 use Rattle.stamp_text.specs.declared.lines.Item.TheVariants as item
 use Rattle.stamp_text.specs.declared.lines.Stamp.{Stamp}
-use Rattle.radclock_run.specs.declared.inputs.ItemLine.{ItemLine}
+use Rattle.radclock_input.specs.declared.files.ItemLine.{ItemLine}
 use Rattle.radclock_run.specs.declared.reports.Tally.{Tally}
 use Rattle.radclock_run.specs.Reports.{Outcome, outcome_of, outcomes, is_stamp, is_taken, refused_in}
 use Rattle.radclock_run.specs.Tellings.{told_of, told}

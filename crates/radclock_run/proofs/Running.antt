@@ -14,18 +14,22 @@ use Rattle.clock_words.specs.declared.commands.Report.TheVariants as report
 use Rattle.tick_desk.specs.Shows.{PenShows}
 use Rattle.tick_desk.specs.declared.desk.Desk.{Desk}
 use Rattle.ideal_world.specs.declared.deviations.Deviation.{Deviation}
-use Rattle.radclock_run.specs.Inputs.{takes_few, stop_of_file, head_of_file, freq_of_file, items_of_file}
-use Rattle.radclock_run.specs.Readings.{IsTaken}
+use Rattle.capture_text.specs.Files.{lines_of_capture}
+use Rattle.radclock_input.specs.Captured.{capture_so_far, stop_of_packets}
+use Rattle.radclock_input.specs.Inputs.{stop_so_far, stop_of_file, head_of_file, freq_of_file, items_of_file}
+use Rattle.radclock_input.specs.Pulled.{PullGives, ReadsTo, IsTaken}
+use Rattle.radclock_run.specs.Asks.{takes_few}
 use Rattle.radclock_run.specs.MadeRuns.{run_by}
 use Rattle.radclock_run.specs.Statuses.{status_of, fault_of}
 use Rattle.radclock_run.specs.Endings.{EndsWith, Finishes, Summarises, Leaves}
-use Rattle.radclock_run.specs.Runs.{PushGives, Breaks, ByLines, Headline, Holds, HoldsDone, HoldsShort, IsRead, IsDue, Ran, ends_with, lines_due, PullGives, ReadsTo}
-use Rattle.radclock_run.specs.declared.inputs.Stop.{Stop}
-use Rattle.radclock_run.specs.declared.inputs.Stop.TheVariants as stop
+use Rattle.radclock_run.specs.Runs.{PushGives, Breaks, ByLines, Headline, Holds, HoldsDone, HoldsShort, IsRead, IsDue, Ran, ends_with, lines_due}
+use Rattle.radclock_input.specs.declared.stops.Stop.{Stop}
+use Rattle.radclock_input.specs.declared.stops.Stop.TheVariants as stop
 use Rattle.radclock_run.specs.declared.ran.Asked.{Asked}
 use Rattle.radclock_run.specs.declared.status.Status.{Status}
 use Rattle.radclock_run.specs.declared.status.Status.TheVariants as status
-use Rattle.radclock_run.proofs.Sound.{is-sound, not-done}
+use Rattle.radclock_input.proofs.Sound.{is-sound}
+use Rattle.radclock_run.proofs.NotDone.{not-done}
 use Rattle.radclock_run.proofs.Truth.{made-truth-of, truth-of}
 
 -- what a report leaves is the headline of a replay, and the desk of each other
@@ -52,12 +56,21 @@ stopped-lines stop.Memory asked text told pen is = refl
 stopped-lines (stop.Read taken) asked text told pen is = ap (λ n. fault_text (fault.Read n) ∷ []) is
 stopped-lines (stop.Fault f) asked text told pen is = refl
 stopped-lines (stop.Large l) asked text told pen is = refl
+stopped-lines (stop.Capture f) asked text told pen is = refl
 
 stopped-holds : (s : Stop) (r : Report) (desk : Desk) → desk.pen.journal ≡ cold ∷ [] → Holds (Some (command.Report r)) (status_of s) desk desk
 stopped-holds stop.Memory r desk fresh = fresh
 stopped-holds (stop.Read taken) r desk fresh = refl
 stopped-holds (stop.Fault f) r desk fresh = refl
 stopped-holds (stop.Large l) r desk fresh = refl
+stopped-holds (stop.Capture f) r desk fresh = refl
+
+capture-holds : (s : Stop) (desk : Desk) → Holds (Some command.Capture) (status_of s) desk desk
+capture-holds stop.Memory desk = refl
+capture-holds (stop.Read taken) desk = refl
+capture-holds (stop.Fault f) desk = refl
+capture-holds (stop.Large l) desk = refl
+capture-holds (stop.Capture f) desk = refl
 
 module _ {K : Type 0} (written : K → Option (List ℕ)) (faults : K → ℕ) (push : PushGives K) where
   breaks-of : (old : K) (lines : List (List ℕ)) (new : K) → Broke written faults push old lines new → Breaks push old lines new
@@ -149,6 +162,8 @@ module _ {S K : Type 0} (pull : PullGives S) (written : K → Option (List ℕ))
   run-short (Some (command.Report r)) source sink sink' desk result fresh ends =
       short-as (Some (command.Report r)) (Some stop.Memory) source sink sink' desk result (inl refl)
       (inr (record { none = refl; same = refl }, refl)) fresh ends
+  run-short (Some command.Capture) source sink sink' desk result fresh ends =
+      short-as (Some command.Capture) (Some stop.Memory) source sink sink' desk result (inl refl) (inr (record { none = refl; same = refl }, refl)) refl ends
   run-short (Some (command.Make number count)) source sink sink' desk result fresh ends =
       short-as (Some (command.Make number count)) None source sink sink' desk result (inr (refl, refl)) (record { none = refl; same = refl }, refl) refl ends
   run-short (Some (command.Run number count ideal)) source sink sink' desk result fresh ends =
@@ -196,7 +211,7 @@ module _ {S K : Type 0} (pull : PullGives S) (written : K → Option (List ℕ))
 
   -- a report on a text that was read to its end
   pub run-finished : (r : Report) (text : List ℕ) (source source' : S) (sink sink' : K) (desk desk' : Desk) (result : Status) → desk.pen.journal
-      ≡ cold ∷ [] → ReadsTo pull (takes_few r) source text None source' → stop_of_file (takes_few r) text ≡ None
+      ≡ cold ∷ [] → ReadsTo pull (stop_so_far (takes_few r)) (stop_of_file (takes_few r)) source text None source' → stop_of_file (takes_few r) text ≡ None
       → Finishes written faults push r (head_of_file text) (items_of_file text) sink desk result sink' desk'
       → Ran pull (ByLines push) (Some (command.Report r)) source source' sink sink' desk desk' result
   run-finished r text source source' sink sink' desk desk' result fresh reads none ends =
@@ -235,12 +250,12 @@ module _ {S K : Type 0} (pull : PullGives S) (written : K → Option (List ℕ))
             }
       ]
 
-  -- one whose text is stopped
-  pub run-stopped : (r : Report) (s : Stop) (text : List ℕ) (source source' : S) (sink sink' : K) (desk : Desk) (result : Status) → desk.pen.journal
-      ≡ cold ∷ [] → ReadsTo pull (takes_few r) source text (Some s) source' → IsTaken s text
+  -- a run whose text is stopped
+  stopped-as : (asked : Option Command) (s : Stop) (text : List ℕ) (source source' : S) (sink sink' : K) (desk : Desk) (result : Status)
+      → IsDue asked (Some s) (status_of s) → IsRead pull asked source text (Some s) source' → IsTaken s text → Holds asked (status_of s) desk desk
       → EndsWith written faults push sink (fault_text (fault_of s) ∷ []) (status_of s) result sink'
-      → Ran pull (ByLines push) (Some (command.Report r)) source source' sink sink' desk desk result
-  run-stopped r s text source source' sink sink' desk result fresh reads taken ends =
+      → Ran pull (ByLines push) asked source source' sink sink' desk desk result
+  stopped-as asked s text source source' sink sink' desk result due reads taken holds ends =
       let out = by-lines written faults push sink _ (status_of s) result sink' ends in
       record {
         text = text;
@@ -248,11 +263,47 @@ module _ {S K : Type 0} (pull : PullGives S) (written : K → Option (List ℕ))
         due = status_of s;
         answer = out.0;
         told = None;
+        status_is = due;
+        ended = out.2;
+        read = reads;
+        wrote = subst (λ ls. ByLines push sink ls out.0 sink') (stopped-lines s asked text None desk.pen taken) out.1;
+        headline = λ is. absurd (not-done s is);
+        truth = λ is. absurd (not-done s is);
+        holds = holds;
+      }
+
+  pub run-stopped : (r : Report) (s : Stop) (text : List ℕ) (source source' : S) (sink sink' : K) (desk : Desk) (result : Status) → desk.pen.journal
+      ≡ cold ∷ [] → ReadsTo pull (stop_so_far (takes_few r)) (stop_of_file (takes_few r)) source text (Some s) source' → IsTaken s text
+      → EndsWith written faults push sink (fault_text (fault_of s) ∷ []) (status_of s) result sink'
+      → Ran pull (ByLines push) (Some (command.Report r)) source source' sink sink' desk desk result
+  run-stopped r s text source source' sink sink' desk result fresh reads taken ends =
+      stopped-as (Some (command.Report r)) s text source source' sink sink' desk result (inl refl) (inl reads) taken (stopped-holds s r desk fresh) ends
+
+  -- a capture that is stopped, or was read to its end
+  pub run-capture-stopped : (s : Stop) (text : List ℕ) (source source' : S) (sink sink' : K) (desk : Desk) (result : Status)
+      → ReadsTo pull capture_so_far stop_of_packets source text (Some s) source' → IsTaken s text
+      → EndsWith written faults push sink (fault_text (fault_of s) ∷ []) (status_of s) result sink'
+      → Ran pull (ByLines push) (Some command.Capture) source source' sink sink' desk desk result
+  run-capture-stopped s text source source' sink sink' desk result reads taken ends =
+      stopped-as (Some command.Capture) s text source source' sink sink' desk result (inl refl) (inl reads) taken (capture-holds s desk) ends
+
+  pub run-converted : (text : List ℕ) (source source' : S) (sink sink' : K) (desk : Desk) (result : Status)
+      → ReadsTo pull capture_so_far stop_of_packets source text None source'
+      → EndsWith written faults push sink (lines_of_capture text) status.Done result sink'
+      → Ran pull (ByLines push) (Some command.Capture) source source' sink sink' desk desk result
+  run-converted text source source' sink sink' desk result reads ends =
+      let out = by-lines written faults push sink _ status.Done result sink' ends in
+      record {
+        text = text;
+        stopped = None;
+        due = status.Done;
+        answer = out.0;
+        told = None;
         status_is = inl refl;
         ended = out.2;
         read = inl reads;
-        wrote = subst (λ ls. ByLines push sink ls out.0 sink') (stopped-lines s (Some (command.Report r)) text None desk.pen taken) out.1;
-        headline = λ is. absurd (not-done s is);
-        truth = λ is. absurd (not-done s is);
-        holds = stopped-holds s r desk fresh;
+        wrote = out.1;
+        headline = λ _. tt;
+        truth = λ _. tt;
+        holds = refl;
       }

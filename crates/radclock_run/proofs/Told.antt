@@ -27,8 +27,8 @@ use Rattle.replay_run.specs.declared.plan.Options.{Options}
 use Rattle.report_text.specs.Text.{head_text, end_text, stamp_text, base_text, estimate_text}
 use Rattle.report_text.specs.declared.lines.ReportHead.{ReportHead}
 use Rattle.report_text.specs.declared.lines.ReportHead.TheVariants as head
-use Rattle.radclock_run.specs.declared.inputs.ItemLine.{ItemLine}
-use Rattle.radclock_run.specs.Inputs.{accepted_among}
+use Rattle.radclock_input.specs.declared.files.ItemLine.{ItemLine}
+use Rattle.radclock_input.specs.Inputs.{accepted_among}
 use Rattle.radclock_run.proofs.Counted.{with-stamps, many-estimates}
 use Rattle.radclock_run.specs.Reports.{outcomes, end_counts, item_text, line_by, lines_of, of_nth, stamp_report, stamps_report, rtt_report, estimate_report, bases_of, tick_lines, log_lines, replay_head, replay_counts, replay_report}
 use Rattle.radclock_run.specs.Tellings.{told_item, told_of, told, report, replay_told, stamps_says, rtt_says, estimate_says}

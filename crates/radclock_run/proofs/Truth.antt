@@ -39,13 +39,13 @@ use Rattle.stamp_text.proofs.PlainItems.{stamps-back, stamps-are-items}
 use Rattle.world_laws.specs.Truths.{IsTrueEstimate, IsCovered, IsTrueTick, AreTrueTicks}
 use Rattle.world_laws.proofs.BoundsHold.{estimates-true}
 use Rattle.world_laws.proofs.PlansGoBy.{readings-true, plays-true}
-use Rattle.radclock_run.specs.Inputs.{IsRanged, accepted_among, head_of_file, freq_of_file, items_of_file}
+use Rattle.radclock_input.specs.Inputs.{IsRanged, accepted_among, head_of_file, freq_of_file, items_of_file}
 use Rattle.radclock_run.specs.Replays.{IsReplayed, run_options, run_items, run_stamps, IsRunOf, AreTrueReadings, IsTrueReplay, MadeTruth, TellsTrue}
 use Rattle.radclock_run.specs.Endings.{Leaves}
 use Rattle.radclock_run.specs.Runs.{Truth}
 use Rattle.radclock_run.specs.declared.ran.Asked.{Asked}
-use Rattle.radclock_run.specs.declared.inputs.ItemLine.{ItemLine}
-use Rattle.radclock_run.proofs.Gathering.{head-ranged, items-timed}
+use Rattle.radclock_input.specs.declared.files.ItemLine.{ItemLine}
+use Rattle.radclock_input.proofs.Gathering.{head-ranged, items-timed}
 
 -- an input in the grammar is in its ranges
 file-ranged : (text : List ℕ) → fault_of_file text ≡ None → IsRanged (freq_of_file text) (items_of_file text)

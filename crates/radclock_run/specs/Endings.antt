@@ -9,14 +9,14 @@ use Rattle.clock_words.specs.declared.commands.Report.TheVariants as asked
 use Rattle.tick_desk.specs.declared.desk.Desk.{Desk}
 use Rattle.replay_run.specs.declared.plan.Options.{Options}
 use Rattle.ideal_world.specs.declared.deviations.Deviation.{Deviation}
-use Rattle.radclock_run.specs.Inputs.{accepted_among}
+use Rattle.radclock_input.specs.Inputs.{accepted_among}
 use Rattle.radclock_run.specs.MadeRuns.{run_text}
 use Rattle.radclock_run.specs.Replays.{IsReplayed, IsRunOf}
 use Rattle.radclock_run.specs.Reports.{report_of}
 use Rattle.stamp_text.specs.declared.lines.Head.{Head}
-use Rattle.radclock_run.specs.declared.inputs.ItemLine.{ItemLine}
-use Rattle.radclock_run.specs.declared.inputs.Stop.{Stop}
-use Rattle.radclock_run.specs.declared.inputs.Stop.TheVariants as stop
+use Rattle.radclock_input.specs.declared.files.ItemLine.{ItemLine}
+use Rattle.radclock_input.specs.declared.stops.Stop.{Stop}
+use Rattle.radclock_input.specs.declared.stops.Stop.TheVariants as stop
 use Rattle.radclock_run.specs.declared.ran.Asked.{Asked}
 use Rattle.radclock_run.specs.declared.status.Status.{Status}
 use Rattle.radclock_run.specs.declared.status.Status.TheVariants as status
@@ -36,6 +36,7 @@ LeavesAt stop.Memory old new = new.pen.journal ≡ old.pen.journal
 LeavesAt (stop.Read taken) old new = new ≡ old
 LeavesAt (stop.Fault f) old new = new ≡ old
 LeavesAt (stop.Large l) old new = new ≡ old
+LeavesAt (stop.Capture f) old new = new ≡ old
 
 -- the lines that were to be written are, and the run ends as it was to, or a push failed, which
 -- was the last one

@@ -3,7 +3,8 @@ use Rattle.std.specs.Prelude.{◌≡◌, ℕ, ◌⊎◌, List, drop}
 use Rattle.clock_words.specs.Lines.{command_in}
 use Rattle.tick_desk.specs.Shows.{IsFresh}
 use Rattle.tick_desk.specs.declared.desk.Desk.{Desk}
-use Rattle.radclock_run.specs.Runs.{PushGives, ByBlocks, Ran, PullGives}
+use Rattle.radclock_input.specs.Pulled.{PullGives}
+use Rattle.radclock_run.specs.Runs.{PushGives, ByBlocks, Ran}
 use Rattle.radclock_run.specs.Statuses.{code_of}
 use Rattle.radclock_run.specs.declared.status.Status.{Status}
 use Rattle.radclock_run.specs.declared.status.Status.TheVariants as status

@@ -7,8 +7,8 @@ use Rattle.ff_estimator.specs.Daemons.{Kept, StandsFor}
 use Rattle.ff_estimator.specs.Events.{AreOf}
 use Rattle.ff_estimator.specs.declared.fulls.Event.{Event}
 use Rattle.ff_estimator.specs.declared.fulls.Event.TheVariants as event
-use Rattle.radclock_run.specs.Inputs.{accepted_among}
-use Rattle.radclock_run.specs.declared.inputs.ItemLine.{ItemLine}
+use Rattle.radclock_input.specs.Inputs.{accepted_among}
+use Rattle.radclock_input.specs.declared.files.ItemLine.{ItemLine}
 
 -- a daemon stands for accepted items, and these are their events
 pub record Gathered (k : Kept) (events : List Event) (freq : ℕ) (items : List Item) : Type 0 where

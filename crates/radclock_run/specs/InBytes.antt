@@ -14,8 +14,12 @@ use Rattle.replay_run.specs.declared.plan.Options.{Options}
 use Rattle.ideal_world.specs.declared.deviations.Deviation.{Deviation}
 use Rattle.world_times.specs.Worlds.{IsFit, LiesIn}
 use Rattle.world_times.specs.declared.world.World.{World}
-use Rattle.radclock_run.specs.Inputs.{most_bytes, most_items, most_accepted, counted_among, accepted_among, takes_few, head_of_file, freq_of_file, items_of_file}
+use Rattle.radclock_input.specs.Inputs.{most_bytes, most_items, most_accepted, counted_among, accepted_among, head_of_file, freq_of_file, items_of_file}
 use Rattle.report_text.specs.MadeFiles.{file_lines_of}
+use Rattle.ntp_capture.specs.Grammar.{given, fault_of_capture}
+use Rattle.capture_text.specs.Files.{lines_of_capture}
+use Rattle.capture_text.specs.Inputs.{answers_of, exchanges_in, most_exchanges}
+use Rattle.radclock_run.specs.Asks.{takes_few}
 use Rattle.radclock_run.specs.Endings.{Leaves, replay_by}
 use Rattle.radclock_run.specs.MadeRuns.{run_by, run_text}
 use Rattle.radclock_run.specs.Replays.{IsReplayed, IsRunOf, TellsTrue}
@@ -37,10 +41,23 @@ pub record WasRead (left left' written written' : Option (List ℕ)) (desk desk'
   pub leaves : Leaves r (freq_of_file text) (items_of_file text) desk desk'
   pub wrote : Appends written written' (concat (report_of r (head_of_file text) (items_of_file text) desk'.pen))
 
--- what was read and appended: a report on the input, or a made file or the report on a run over made
--- stamps, and then nothing was read
+-- the input was read to its end, it is a capture and within the limits, and the stamp file that it becomes was appended
+pub record WasConverted (left left' written written' : Option (List ℕ)) (desk desk' : Desk) : Type 0 where
+  pub text : List ℕ
+  pub bytes : Consumes left left' text
+  pub ended : IsAtEnd left'
+  pub sound : fault_of_capture text ≡ None
+  pub few_bytes : length text ≤ most_bytes
+  pub few_exchanges : exchanges_in (answers_of (given text)) ≤ most_exchanges
+  pub same : desk' ≡ desk
+  pub wrote : Appends written written' (concat (lines_of_capture text))
+
+-- what was read and appended: a report on the input or what a capture becomes, or a made file or the report on a run over
+-- made stamps, and then nothing was read
 pub data WasDone (left left' written written' : Option (List ℕ)) (desk desk' : Desk) (asked : Option Command) : Type 0 where
   reported : (r : Report) → asked ≡ Some (command.Report r) → WasRead left left' written written' desk desk' r
+      → WasDone left left' written written' desk desk' asked
+  converted : asked ≡ Some command.Capture → WasConverted left left' written written' desk desk'
       → WasDone left left' written written' desk desk' asked
   filed : (number count : ℕ) → asked ≡ Some (command.Make number count) → left' ≡ left → desk' ≡ desk
       → Appends written written' (concat (file_lines_of (made_list number count))) → WasDone left left' written written' desk desk' asked
@@ -80,6 +97,7 @@ MakesNone status.Usage = Unit {0}
 MakesNone status.ReadFault = Unit {0}
 MakesNone status.NoMemory = Unit {0}
 MakesNone (status.TooLarge l) = Unit {0}
+MakesNone (status.BadCapture f) = Unit {0}
 
 -- the count of faults did not rise, and does not stand at its last value
 pub record WasFree (before now : ℕ) : Type 0 where

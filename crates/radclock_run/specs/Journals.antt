@@ -4,8 +4,8 @@ use Rattle.ff_hands.specs.declared.hands.Hands.{Hands}
 use Rattle.ff_estimator.specs.Events.{events_of}
 use Rattle.replay_run.specs.Journals.{journal_of}
 use Rattle.replay_run.specs.Plans.{plan_of}
-use Rattle.radclock_run.specs.Inputs.{accepted_among}
-use Rattle.radclock_run.specs.declared.inputs.ItemLine.{ItemLine}
+use Rattle.radclock_input.specs.Inputs.{accepted_among}
+use Rattle.radclock_input.specs.declared.files.ItemLine.{ItemLine}
 
 -- the journal of a clock that is played what a file's accepted items say, at this frequency and with so many plain
 -- steps between two of them

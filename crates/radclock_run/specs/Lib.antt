@@ -1,5 +1,4 @@
-pub mod Inputs
-pub mod Readings
+pub mod Asks
 pub mod Replays
 pub mod Reports
 pub mod MadeRuns

@@ -23,11 +23,11 @@ use Rattle.report_text.specs.Text.{head_text, end_text, stamp_text, base_text, e
 use Rattle.report_text.specs.declared.lines.EndCounts.{EndCounts}
 use Rattle.report_text.specs.declared.lines.ReportHead.{ReportHead}
 use Rattle.report_text.specs.declared.lines.ReportHead.TheVariants as head
-use Rattle.radclock_run.specs.Inputs.{accepted_among}
+use Rattle.radclock_input.specs.Inputs.{accepted_among}
 use Rattle.radclock_run.specs.Journals.{played_by}
 use Rattle.radclock_run.specs.Replays.{logs_of}
 use Rattle.radclock_run.specs.Plays.{entries_in}
-use Rattle.radclock_run.specs.declared.inputs.ItemLine.{ItemLine}
+use Rattle.radclock_input.specs.declared.files.ItemLine.{ItemLine}
 use Rattle.clock_words.specs.declared.commands.Report.{Report}
 use Rattle.clock_words.specs.declared.commands.Report.TheVariants as asked
 

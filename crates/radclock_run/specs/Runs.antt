@@ -2,7 +2,6 @@
 use Rattle.std.specs.Prelude.{◌≡◌, ℕ, ◌<◌, ◌⊎◌, ⊤, Bool, List, [], ◌∷◌, ◌++◌, length, Option, None, Some, Result, Ok, Err}
 use Rattle.std.specs.List.{All, concat}
 use Rattle.rad_io.specs.Blocks.{Short}
-use Rattle.rad_io.specs.Pulls.{Pulled, Pulls}
 use Rattle.rad_io.specs.Pushes.{Pushes}
 use Rattle.rad_io.specs.declared.Failed.{Failed}
 use Rattle.stamp_text.specs.Past.{stamps_of}
@@ -20,45 +19,19 @@ use Rattle.tick_desk.specs.declared.desk.Desk.{Desk}
 use Rattle.world_times.specs.Worlds.{IsFit, LiesIn}
 use Rattle.world_times.specs.declared.world.World.{World}
 use Rattle.ideal_world.specs.declared.deviations.Deviation.{Deviation}
-use Rattle.radclock_run.specs.Inputs.{accepted_among, takes_few, head_of_file, freq_of_file, items_of_file, stop_so_far, stop_of_file}
+use Rattle.capture_text.specs.Files.{lines_of_capture}
+use Rattle.radclock_input.specs.Captured.{capture_so_far, stop_of_packets}
+use Rattle.radclock_input.specs.Inputs.{accepted_among, head_of_file, freq_of_file, items_of_file, stop_so_far, stop_of_file}
+use Rattle.radclock_input.specs.Pulled.{PullGives, ReadsTo}
+use Rattle.radclock_run.specs.Asks.{takes_few}
 use Rattle.radclock_run.specs.MadeRuns.{run_text}
 use Rattle.radclock_run.specs.Replays.{IsReplayed, IsRunOf, MadeTruth, TellsTrue}
 use Rattle.radclock_run.specs.Reports.{report_of}
 use Rattle.radclock_run.specs.Statuses.{status_by}
-use Rattle.radclock_run.specs.declared.inputs.Stop.{Stop}
-use Rattle.radclock_run.specs.declared.inputs.Stop.TheVariants as stop
+use Rattle.radclock_input.specs.declared.stops.Stop.{Stop}
+use Rattle.radclock_input.specs.declared.stops.Stop.TheVariants as stop
 use Rattle.radclock_run.specs.declared.status.Status.{Status}
 use Rattle.radclock_run.specs.declared.status.Status.TheVariants as status
-
--- what one pull may give: from this source and room, this answer, room and source
-abbrev pub PullGives : Type 0 → Type 1
-PullGives S = S → List ℕ → Result ℕ Failed → List ℕ → S → Type 0
-
--- Why nothing is pulled behind a pull with this answer, where the text goes as far as its bytes
-pub data StopsBehind (limited : Bool) (text : List ℕ) : Result ℕ Failed → Option Stop → Type 0 where
-  -- it failed, and took nothing
-  broke_off : StopsBehind limited text (Err (record {})) (Some (stop.Read (length text)))
-  -- it found the end: nothing stops the whole input, or this does
-  at_end : StopsBehind limited text (Ok 0) (stop_of_file limited text)
-  -- this stops the input within its bytes
-  in_piece : (n : ℕ) (s : Stop) → 0 < n → stop_so_far limited text ≡ Some s → StopsBehind limited text (Ok n) (Some s)
-  -- memory was wanting for what the text gives
-  out_of_memory : (n : ℕ) → StopsBehind limited text (Ok n) (Some stop.Memory)
-
--- A text is read by single pulls, each into a room of 4,096 bytes, to its end (`None`) or to what stops it
-pub record ReadsTo {S : Type 0} (pull : PullGives S) (limited : Bool) (old : S) (text : List ℕ) (s : Option Stop) (new : S) : Type 0 where
-  -- the pulls but the last one, each of which gave bytes, and nothing in these stops the input
-  pub front : List ℕ
-  pub mid : S
-  pub pulls : Pulls pull 4096 old front mid
-  pub sound : stop_so_far limited front ≡ None
-  -- the last one
-  pub answer : Result ℕ Failed
-  pub piece : List ℕ
-  pub last : Pulled pull 4096 mid answer piece new
-  pub sized : length last.filled ≡ 4096
-  pub whole : text ≡ front ++ piece
-  pub stops : StopsBehind limited text answer s
 
 -- what one push may give: from this sink and piece, this answer and sink
 abbrev pub PushGives : Type 0 → Type 1
@@ -98,10 +71,13 @@ pub record IsUnread {S : Type 0} (old : S) (text : List ℕ) (new : S) : Type 0 
   pub none : text ≡ []
   pub same : new ≡ old
 
--- What is read: only a report reads, where there is memory for its words
+-- What is read: only a report or a capture is, where there is memory for the words
 abbrev pub IsRead : {S : Type 0} → PullGives S → Option Command → S → List ℕ → Option Stop → S → Type 0
 IsRead pull None old text s new = IsUnread old text new × (s ≡ None)
-IsRead pull (Some (command.Report r)) old text s new = ReadsTo pull (takes_few r) old text s new ⊎ (IsUnread old text new × (s ≡ Some stop.Memory))
+IsRead pull (Some (command.Report r)) old text s new =
+    ReadsTo pull (stop_so_far (takes_few r)) (stop_of_file (takes_few r)) old text s new ⊎ (IsUnread old text new × (s ≡ Some stop.Memory))
+IsRead pull (Some command.Capture) old text s new =
+    ReadsTo pull capture_so_far stop_of_packets old text s new ⊎ (IsUnread old text new × (s ≡ Some stop.Memory))
 IsRead pull (Some (command.Make number count)) old text s new = IsUnread old text new × (s ≡ None)
 IsRead pull (Some (command.Run number count ideal)) old text s new = IsUnread old text new × (s ≡ None)
 
@@ -109,6 +85,7 @@ IsRead pull (Some (command.Run number count ideal)) old text s new = IsUnread ol
 abbrev pub status_due : Option Command → Option Stop → Status
 status_due None s = status.Usage
 status_due (Some (command.Report r)) s = status_by s
+status_due (Some command.Capture) s = status_by s
 status_due (Some (command.Make number count)) s = status.Done
 status_due (Some (command.Run number count ideal)) s = status.Done
 
@@ -121,10 +98,11 @@ abbrev pub ends_with : Status → Result (Unit {0}) Failed → Status
 ends_with due (Ok o) = due
 ends_with due (Err e) = status.WriteFault
 
--- the lines of a done run: a report on the text, a made file, or the report on a run over made stamps
+-- the lines of a done run: a report on the text, the stamp file that a capture becomes, a made file, or the report on a run over made stamps
 abbrev pub done_lines : Option Command → List ℕ → Option Deviation → PenShows → List (List ℕ)
 done_lines None text told pen = []
 done_lines (Some (command.Report r)) text told pen = report_of r (head_of_file text) (items_of_file text) pen
+done_lines (Some command.Capture) text told pen = lines_of_capture text
 done_lines (Some (command.Make number count)) text told pen = file_lines_of (made_list number count)
 done_lines (Some (command.Run number count ideal)) text told pen = run_text (record { number = number; count = count; ideal = ideal }) told pen
 
@@ -137,6 +115,7 @@ lines_due asked text told pen status.ReadFault = fault_text (fault.Read (length 
 lines_due asked text told pen status.WriteFault = []
 lines_due asked text told pen status.NoMemory = fault_text fault.Memory ∷ []
 lines_due asked text told pen (status.TooLarge l) = fault_text (fault.Large l) ∷ []
+lines_due asked text told pen (status.BadCapture f) = fault_text (fault.Capture f) ∷ []
 
 -- The headline. Of a replay: what the pen shows is the replay of the text's accepted items, each point of which has its
 -- name in `IsReplayed`. Of a run over made stamps: it is that of these, and what is told of the truth is so (`IsRunOf`)
@@ -149,6 +128,7 @@ Headline (Some (command.Report (report.Ticks ticks timers))) text told pen = ⊤
 Headline (Some (command.Report (report.Replay ticks readers reads back crank utc lane))) text told pen =
     IsReplayed (record { ticks = ticks; readers = readers; reads = reads; back = back; crank = crank; utc = utc }) (freq_of_file text)
     (accepted_of_file text) pen
+Headline (Some command.Capture) text told pen = ⊤
 Headline (Some (command.Make number count)) text told pen = ⊤
 Headline (Some (command.Run number count ideal)) text told pen = IsRunOf (record { number = number; count = count; ideal = ideal }) told pen
 
@@ -157,6 +137,7 @@ abbrev pub Truth : Option Command → List ℕ → PenShows → Type 0
 Truth None text pen = ⊤
 Truth (Some (command.Report r)) text pen = (w : World) → IsFit (freq_of_file text) w → All (LiesIn w) (stamps_of (accepted_of_file text))
     → TellsTrue w r (freq_of_file text) (accepted_of_file text) pen
+Truth (Some command.Capture) text pen = ⊤
 Truth (Some (command.Make number count)) text pen = ⊤
 Truth (Some (command.Run number count ideal)) text pen = MadeTruth (record { number = number; count = count; ideal = ideal }) pen
 
@@ -169,6 +150,7 @@ HoldsDone (Some (command.Report report.Rtt)) old new = new ≡ old
 HoldsDone (Some (command.Report report.Estimate)) old new = new ≡ old
 HoldsDone (Some (command.Report (report.Ticks ticks timers))) old new = new ≡ old
 HoldsDone (Some (command.Report (report.Replay ticks readers reads back crank utc lane))) old new = ⊤
+HoldsDone (Some command.Capture) old new = new ≡ old
 HoldsDone (Some (command.Make number count)) old new = new ≡ old
 HoldsDone (Some (command.Run number count ideal)) old new = ⊤
 
@@ -176,6 +158,7 @@ HoldsDone (Some (command.Run number count ideal)) old new = ⊤
 abbrev pub HoldsShort : Option Command → Desk → Desk → Type 0
 HoldsShort None old new = new ≡ old
 HoldsShort (Some (command.Report r)) old new = new.pen.journal ≡ cold ∷ []
+HoldsShort (Some command.Capture) old new = new ≡ old
 HoldsShort (Some (command.Make number count)) old new = new ≡ old
 HoldsShort (Some (command.Run number count ideal)) old new = new.pen.journal ≡ cold ∷ []
 
@@ -188,6 +171,7 @@ Holds asked status.ReadFault old new = new ≡ old
 Holds asked status.WriteFault old new = new ≡ old
 Holds asked status.NoMemory old new = HoldsShort asked old new
 Holds asked (status.TooLarge l) old new = new ≡ old
+Holds asked (status.BadCapture f) old new = new ≡ old
 
 -- A run by this command, over one text
 pub record Ran {S K : Type 0} (pull : PullGives S) (writes : Writing K) (asked : Option Command) (source source' : S) (sink sink' : K)

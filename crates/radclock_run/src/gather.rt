@@ -5,14 +5,14 @@ ghost use Rattle.stamp_text.specs.Past.{accept_item};
 ghost use Rattle.stamp_text.specs.declared.lines.Item.{Item};
 ghost use Rattle.stamp_text.specs.declared.lines.Item.TheVariants as item;
 ghost use Rattle.world_times.specs.Worlds.{LiesIn};
-ghost use Rattle.radclock_run.specs.Inputs.{IsRanged, accepted_among};
+ghost use Rattle.radclock_input.specs.Inputs.{IsRanged, accepted_among};
 ghost use Rattle.radclock_run.specs.Gathered.{AreEvents, Gathered, IsGathered};
 ghost use Rattle.radclock_run.specs.Reports.{outcomes, refused_in};
 
-use crate::inputs::{StampFile, accept_item};
 use ff_estimator::{Daemon, Event, Fed};
 use ff_grain::NoMemory;
 use ideal_world::{Judged, Watched};
+use radclock_input::{StampFile, accept_item};
 use stamp_text::{Item, Past, Stamp};
 use std::alloc::Global;
 use std::sync::ledger::Ledger;

@@ -2,16 +2,16 @@
 ghost use Rattle.std.specs.Prelude.{◌≡◌, ◌+◌, ◌-◌, ◌*◌, ◌≤◌, [], false, IfOk, OnErr};
 ghost use Rattle.tick_desk.specs.Shows.{IsFresh};
 ghost use Rattle.replay_run.specs.Plans.{AreOptionsInRange};
-ghost use Rattle.radclock_run.specs.Inputs.{IsRanged, accepted_among, counted_among, most_accepted};
+ghost use Rattle.radclock_input.specs.Inputs.{IsRanged, accepted_among, counted_among, most_accepted};
 ghost use Rattle.radclock_run.specs.Plays.{ArePlayed};
 
 use crate::gather::accepted_items;
-use crate::inputs::StampFile;
 use crate::replay::open;
 use est_lane::Lane;
 use ff_estimator::Daemon;
 use ff_grain::NoMemory;
 use rad_io::Gate;
+use radclock_input::StampFile;
 use replay_run::{Options, Plan, ReadLog, count_events, play_lane};
 use std::alloc::Global;
 use std::sync::ledger::Ledger;

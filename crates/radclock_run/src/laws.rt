@@ -8,7 +8,9 @@ ghost use Rattle.tick_desk.specs.declared.desk.Desk.{Desk};
 ghost use Rattle.replay_run.specs.declared.plan.Options.{Options};
 ghost use Rattle.radclock_run.specs.Endings.{replay_by};
 ghost use Rattle.radclock_run.specs.InBytes.{HeadlineInBytes, MakesNone, RunInBytes, TruthInBytes, WasDone, WasFree};
-ghost use Rattle.radclock_run.specs.Inputs.{stop_of_file, takes_few};
+ghost use Rattle.radclock_input.specs.Captured.{stop_of_packets};
+ghost use Rattle.radclock_input.specs.Inputs.{stop_of_file};
+ghost use Rattle.radclock_run.specs.Asks.{takes_few};
 ghost use Rattle.radclock_run.specs.MadeRuns.{run_by};
 ghost use Rattle.radclock_run.specs.Runs.{ByBlocks, ByLines, Ran};
 ghost use Rattle.radclock_run.specs.Statuses.{status_by};
@@ -62,6 +64,12 @@ pub fn lines_tell<S: Source, K: Sink>()
         desk' result → S.left source ≡ Some text → WasFree (S.faults source) (S.faults source') →
         WasFree (K.faults sink) (K.faults sink') →
         (result ≡ status_by (stop_of_file (takes_few r) text)) ⊎ (result ≡ Status.NoMemory) }
+    ensures converts { (text : List ℕ) (source source' : S) (sink sink' : K) (desk desk' : Desk)
+        (result : Status) →
+        Ran S.pull_gives (ByLines K.push_gives) (Some command.Capture) source source' sink sink' desk desk'
+        result → S.left source ≡ Some text → WasFree (S.faults source) (S.faults source') →
+        WasFree (K.faults sink) (K.faults sink') →
+        (result ≡ status_by (stop_of_packets text)) ⊎ (result ≡ Status.NoMemory) }
     ensures made { (number count : ℕ) (source source' : S) (sink sink' : K) (desk desk' : Desk)
         (result : Status) →
         Ran S.pull_gives (ByLines K.push_gives) (Some (command.Make number count)) source source' sink
@@ -115,6 +123,12 @@ pub fn blocks_tell<S: Source, K: Sink>()
         desk' result → S.left source ≡ Some text → WasFree (S.faults source) (S.faults source') →
         WasFree (K.faults sink) (K.faults sink') →
         (result ≡ status_by (stop_of_file (takes_few r) text)) ⊎ (result ≡ Status.NoMemory) }
+    ensures converts { (text : List ℕ) (source source' : S) (sink sink' : K) (desk desk' : Desk)
+        (result : Status) →
+        Ran S.pull_gives (ByBlocks K.push_gives) (Some command.Capture) source source' sink sink' desk desk'
+        result → S.left source ≡ Some text → WasFree (S.faults source) (S.faults source') →
+        WasFree (K.faults sink) (K.faults sink') →
+        (result ≡ status_by (stop_of_packets text)) ⊎ (result ≡ Status.NoMemory) }
     ensures made { (number count : ℕ) (source source' : S) (sink sink' : K) (desk desk' : Desk)
         (result : Status) →
         Ran S.pull_gives (ByBlocks K.push_gives) (Some (command.Make number count)) source source' sink

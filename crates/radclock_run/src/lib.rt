@@ -2,11 +2,12 @@
 //! report, and a desk holds the clock. The programs `radclock` and `radclock_usage` are one call of [`program::program`].
 #![tactic(auto)]
 
+mod asks;
 mod bases;
+mod captures;
 mod estimates;
 mod faults;
 mod gather;
-mod inputs;
 mod journal;
 mod lanes;
 mod laws;
@@ -16,7 +17,6 @@ mod output;
 mod plays;
 pub mod program;
 mod ran;
-mod reading;
 mod replay;
 mod reports;
 pub mod run;

@@ -9,16 +9,16 @@ ghost use Rattle.stamp_text.specs.declared.lines.Head.{Head};
 ghost use Rattle.stamp_text.specs.declared.lines.Item.{Item};
 ghost use Rattle.stamp_text.specs.declared.lines.Item.TheVariants as item;
 ghost use Rattle.stamp_text.specs.declared.lines.Stamp.{Stamp};
-ghost use Rattle.radclock_run.specs.Inputs.{IsRanged};
+ghost use Rattle.radclock_input.specs.Inputs.{IsRanged};
 ghost use Rattle.radclock_run.specs.Plays.{entries_in, entries_of};
 ghost use Rattle.radclock_run.specs.Reports.{outcomes, is_stamp};
 ghost use Rattle.radclock_run.specs.Tellings.{report, replay_told, told_item, told_of, told_text, IsNext};
 ghost use Rattle.radclock_run.specs.Tallies.{StandsAt, Counts, CountsAll};
 
-use crate::inputs::{ItemLine, StampFile, accept_item};
 use crate::listings::{push_journal, push_logs};
 use ff_hands::Hands;
 use rad_io::{Failed, Sink};
+use radclock_input::{ItemLine, StampFile, accept_item};
 use replay_run::ReadLog;
 use report_text::lines::{leap_line, refused_line, set_line};
 use report_text::{EndCounts, LineText, ReportHead, end_line, head_line};

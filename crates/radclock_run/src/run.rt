@@ -4,7 +4,8 @@ ghost use Rattle.callouts.specs.Firings.{fired_at, firing_list};
 ghost use Rattle.callouts.specs.declared.timers.Entry.{Entry};
 ghost use Rattle.clock_words.specs.Lines.{IsReportInRange, command_in};
 ghost use Rattle.tick_desk.specs.Shows.{IsFresh};
-ghost use Rattle.radclock_run.specs.Inputs.{IsRanged, counted_among, most_accepted, takes_few};
+ghost use Rattle.radclock_input.specs.Inputs.{IsRanged, counted_among, most_accepted};
+ghost use Rattle.radclock_run.specs.Asks.{takes_few};
 ghost use Rattle.stamp_maker.specs.MadeStamps.{made_list};
 ghost use Rattle.report_text.specs.MadeFiles.{file_lines_of};
 ghost use Rattle.radclock_run.specs.Reports.{outcomes, ticks_text};
@@ -12,14 +13,14 @@ ghost use Rattle.radclock_run.specs.Tellings.{report};
 ghost use Rattle.radclock_run.specs.Endings.{EndsWith, Finishes};
 ghost use Rattle.radclock_run.specs.Runs.{ByLines, Ran};
 
+use crate::asks::takes_few;
 use crate::bases::Bases;
+use crate::captures::convert;
 use crate::estimates::Estimates;
 use crate::faults::refuse;
-use crate::inputs::{StampFile, takes_few};
 use crate::journal::{Played, play_file};
 use crate::make::push_made;
 use crate::ran::{Asked, run_made};
-use crate::reading::read_file;
 use crate::replay::replay;
 use crate::reports::{Telling, push_report};
 use crate::stamps::Stamps;
@@ -29,6 +30,7 @@ use clock_words::{Command, Report, command_of};
 use ff_estimator::Daemon;
 use ff_grain::NoMemory;
 use rad_io::{Failed, Gate, Sink, Source};
+use radclock_input::{StampFile, read_file};
 use replay_run::Options;
 use report_text::{FaultText, ReportHead};
 use rtt_window::Window;
@@ -178,9 +180,9 @@ fn make<K: Sink>(sink: &mut K, number: u64, count: u32) -> Status
     }
 }
 
-/// Does the whole work of the program: reads the words after the program's name, then, where they
-/// ask for a report, the whole input in pieces of at most 4,096 bytes, and then writes the report or the
-/// made file that the words ask for, or the one line of a fault.
+/// Does the whole work of the program: reads the words after the program's name, then, where they ask for a
+/// report or for what a capture becomes, the whole input in pieces of at most 4,096 bytes, and then writes
+/// the report or the file that the words ask for, or the one line of a fault.
 ///
 /// Its clause is one record, `Ran`, over one text: that which single pulls gave, to its end or to what
 /// stopped it. Its parts say which status comes and when, what was read and written, the headline, the
@@ -225,6 +227,7 @@ pub fn run<'w, R: Threads + Sync, S: Source, K: Sink, G: Gate>(
 {
     let asked = match command_of(alloc, words) {
         Ok(Some(Command::Report(asked))) => asked,
+        Ok(Some(Command::Capture)) => return convert(alloc, source, sink),
         Ok(Some(Command::Make { number, count })) => return make(sink, number, count),
         Ok(
             Some(

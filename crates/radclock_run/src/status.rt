@@ -2,7 +2,8 @@
 ghost use Rattle.std.specs.Prelude.{◌≡◌};
 ghost use Rattle.radclock_run.specs.Statuses.{status_of, fault_of};
 
-use crate::inputs::Stop;
+use ntp_capture::CapFault;
+use radclock_input::Stop;
 use report_text::{FaultText, Limit};
 use stamp_text::LineFault;
 
@@ -23,6 +24,8 @@ pub enum Status {
     NoMemory,
     /// The input passes a limit.
     TooLarge(Limit),
+    /// The input is no capture: the place and the cause of its first fault.
+    BadCapture(CapFault),
 }
 
 impl Status {
@@ -41,6 +44,7 @@ impl Status {
             Status::WriteFault => 4,
             Status::NoMemory => 5,
             Status::TooLarge(_) => 6,
+            Status::BadCapture(_) => 7,
         }
     }
 }
@@ -54,6 +58,7 @@ pub fn status_of(stop: Stop) -> Status
         Stop::Read { .. } => Status::ReadFault,
         Stop::Fault(fault) => Status::BadInput(fault),
         Stop::Large(limit) => Status::TooLarge(limit),
+        Stop::Capture(fault) => Status::BadCapture(fault),
     }
 }
 
@@ -66,5 +71,6 @@ pub fn fault_of(stop: Stop) -> FaultText
         Stop::Read { taken } => FaultText::Read { taken },
         Stop::Fault(fault) => FaultText::Input(fault),
         Stop::Large(limit) => FaultText::Large(limit),
+        Stop::Capture(fault) => FaultText::Capture(fault),
     }
 }

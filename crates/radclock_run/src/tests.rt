@@ -1,4 +1,5 @@
 // Examples of whole runs, with answers from the rules of the stamp file and of the report.
+mod captured;
 mod faults;
 mod judge;
 mod large;
@@ -67,16 +68,16 @@ fn words_of(alloc: Global, line: &'static str) -> Result<Vec<&'static str>, Fail
     Ok(words)
 }
 
-// Runs the words on an input, with a new desk and a gate. Answers the status and what is written.
-fn played_past<R: Threads + Sync, G: Gate>(
+// Runs the words on bytes, with a new desk and a gate. Answers the status and what is written.
+fn played_on<R: Threads + Sync, G: Gate>(
     rt: &R,
     alloc: Global,
     words: &'static str,
-    input: &str,
+    input: &[u8],
     outside: Outside,
     gate: &G,
 ) -> Result<(Status, String), Fail> {
-    let bytes = Vec::from_slice(alloc, input.as_bytes())?;
+    let bytes = Vec::from_slice(alloc, input)?;
     let pulls = Vec::from_slice(alloc, &[outside.pull])?;
     let pushes = Vec::from_slice(alloc, &[outside.push])?;
     let mut source = MemSource::new(bytes, outside.step.max(1), pulls);
@@ -85,6 +86,18 @@ fn played_past<R: Threads + Sync, G: Gate>(
     let mut desk = Desk::start(alloc)?;
     let status = run(rt, alloc, &words, &mut source, &mut sink, &mut desk, gate);
     Ok((status, String::from_utf8_lossy(alloc, sink.written())?))
+}
+
+// The same on a text.
+fn played_past<R: Threads + Sync, G: Gate>(
+    rt: &R,
+    alloc: Global,
+    words: &'static str,
+    input: &str,
+    outside: Outside,
+    gate: &G,
+) -> Result<(Status, String), Fail> {
+    played_on(rt, alloc, words, input.as_bytes(), outside, gate)
 }
 
 // The same with a gate that holds nobody.

@@ -21,6 +21,8 @@ use Rattle.clock_lines.specs.declared.readings.Entry.{Entry}
 use Rattle.clock_lines.specs.declared.readings.Entry.TheVariants as entry
 use Rattle.callouts.specs.declared.timers.Fired.{Fired}
 use Rattle.stamp_maker.specs.declared.made.Made.{Made}
+use Rattle.ntp_capture.specs.declared.pieces.CapWhy.{CapWhy}
+use Rattle.ntp_capture.specs.declared.pieces.CapWhy.TheVariants as capture_why
 use Rattle.report_text.specs.declared.lines.ReportHead.{ReportHead}
 use Rattle.report_text.specs.declared.lines.ReportHead.TheVariants as head
 use Rattle.report_text.specs.declared.lines.EndCounts.{EndCounts}
@@ -226,6 +228,14 @@ limit_name limit.Bytes = codes "bytes"
 limit_name limit.Stamps = codes "stamps"
 limit_name limit.Accepted = codes "accepted"
 
+abbrev pub capture_why_name : CapWhy → List ℕ
+capture_why_name capture_why.Head = codes "head"
+capture_why_name capture_why.Freq = codes "freq"
+capture_why_name capture_why.Counter = codes "counter"
+capture_why_name capture_why.Direction = codes "direction"
+capture_why_name capture_why.Short = codes "short"
+capture_why_name capture_why.Cut = codes "cut"
+
 -- the one line of a run that ends with a fault
 unfoldable pub fault_text : FaultText → List ℕ
 fault_text fault.Usage = codes "fault usage\n"
@@ -233,6 +243,7 @@ fault_text (fault.Input f) = codes "fault input " ++ decimal f.line ++ codes " "
 fault_text (fault.Large l) = codes "fault large " ++ limit_name l ++ codes "\n"
 fault_text (fault.Read taken) = codes "fault read " ++ decimal taken ++ codes "\n"
 fault_text fault.Memory = codes "fault memory\n"
+fault_text (fault.Capture f) = codes "fault capture " ++ decimal f.at ++ codes " " ++ capture_why_name f.why ++ codes "\n"
 
 -- nanoseconds below 10^9, in nine digits with leading zeros
 abbrev pub nanos_text : ℕ → List ℕ

@@ -5,11 +5,12 @@ ghost use Rattle.std.specs.Prelude.{◌≡◌, ◌≤◌, ◌+◌, ◌++◌, len
 ghost use Rattle.report_text.specs.Text.{version_part, flags_part, options_part, head_text, server_part, stamp_text, base_text, time_part, spread_part, told_leaps_part, estimate_text, set_text, leap_text, clock_part, given_part, leap_part, tick_text, fire_text, refused_text, summary_text, ideal_text, end_text, fault_text};
 
 use crate::line::LineText;
-use crate::names::{add_how, add_marks, limit_name, refused_name, why_name};
+use crate::names::{add_how, add_marks, capture_why_name, limit_name, refused_name, why_name};
 use callouts::Fired;
 use ff_estimator::Full;
 use ff_grain::Bintime;
 use ff_hands::{Estimate, Hands};
+use ntp_capture::CapFault;
 use rad_io::{Failed, Sink};
 use rtt_window::Base;
 use stamp_text::{LineFault, Refused, Stamp};
@@ -120,6 +121,8 @@ pub enum FaultText {
     Read { taken: u64 },
     /// Memory was wanting.
     Memory,
+    /// The input is no capture: its first fault.
+    Capture(CapFault),
 }
 
 // Adds which version the stamp file has, where it is not the first.
@@ -610,6 +613,12 @@ fn fault(f: FaultText) -> LineText
             line.word(b"fault read ");
         }
         FaultText::Memory => line.word(b"fault memory"),
+        FaultText::Capture(fault) => {
+            line.word(capture_why_name(fault.why));
+            line.word(b" ");
+            line.number(fault.at);
+            line.word(b"fault capture ");
+        }
     }
     line
 }

@@ -1,11 +1,12 @@
 // The words of a report for causes, limits, refusals, ticks and kinds of clock.
 ghost use Rattle.std.specs.Prelude.{◌≡◌, ◌≤◌, ◌+◌, ◌++◌, length};
-ghost use Rattle.report_text.specs.Text.{why_name, limit_name, refused_name, marks_text, how_name, kind_name};
+ghost use Rattle.report_text.specs.Text.{why_name, capture_why_name, limit_name, refused_name, marks_text, how_name, kind_name};
 
 use crate::line::LineText;
 use crate::lines::Limit;
 use clock_lines::Kind;
 use ff_hands::{How, Marks};
+use ntp_capture::CapWhy;
 use stamp_text::{Refused, Why};
 
 pub fn why_name(why: Why) -> &'static [u8]
@@ -19,6 +20,20 @@ pub fn why_name(why: Why) -> &'static [u8]
         Why::Digits => b"digits",
         Why::Range => b"range",
         Why::LongLine => b"long-line",
+    }
+}
+
+pub fn capture_why_name(why: CapWhy) -> &'static [u8]
+    ensures name { result.now ≡ capture_why_name why }
+    ensures short { length result.now ≤ 9 }
+{
+    match why {
+        CapWhy::Head => b"head",
+        CapWhy::Freq => b"freq",
+        CapWhy::Counter => b"counter",
+        CapWhy::Direction => b"direction",
+        CapWhy::Short => b"short",
+        CapWhy::Cut => b"cut",
     }
 }
 

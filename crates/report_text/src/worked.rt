@@ -4,6 +4,7 @@ ghost use Rattle.stamp_text.specs.declared.accepts.Refused.TheVariants as refuse
 ghost use Rattle.clock_lines.specs.declared.readings.Entry.TheVariants as entry;
 ghost use Rattle.clock_lines.specs.declared.readings.Kind.TheVariants as kind;
 ghost use Rattle.stamp_text.specs.declared.lines.Why.TheVariants as why;
+ghost use Rattle.ntp_capture.specs.declared.pieces.CapWhy.TheVariants as capture_why;
 ghost use Rattle.report_text.specs.declared.lines.FaultText.TheVariants as fault;
 ghost use Rattle.report_text.specs.declared.lines.Limit.TheVariants as limit;
 ghost use Rattle.report_text.specs.declared.lines.ReportHead.TheVariants as head;
@@ -46,4 +47,7 @@ pub fn lines_of_ends_are_worked()
     ensures input { fault_text (fault.Input (record { line = 3; why = why.Range })) ≡ codes "fault input 3 range\n" }
     ensures large { fault_text (fault.Large limit.Stamps) ≡ codes "fault large stamps\n" }
     ensures read { fault_text (fault.Read 17) ≡ codes "fault read 17\n" }
+    ensures cut { fault_text (fault.Capture (record { at = 75; why = capture_why.Cut })) ≡ codes "fault capture 75 cut\n" }
+    ensures head { fault_text (fault.Capture (record { at = 0; why = capture_why.Head })) ≡ codes "fault capture 0 head\n" }
+    ensures direction { fault_text (fault.Capture (record { at = 24; why = capture_why.Direction })) ≡ codes "fault capture 24 direction\n" }
 {}

@@ -8,7 +8,7 @@ use Rattle.replay_run.specs.Plans.{plan_of}
 use Rattle.replay_run.specs.Plays.{Played}
 use Rattle.replay_run.proofs.Feeding.{accepted-behind, events-length}
 use Rattle.replay_run.proofs.Steps.{steps_len}
-use Rattle.radclock_run.specs.Inputs.{accepted_among}
+use Rattle.radclock_input.specs.Inputs.{accepted_among}
 use Rattle.radclock_run.proofs.Replaying.{are-played}
 use Rattle.radclock_run.proofs.lanes.play_on_lane.Goals as goal
 

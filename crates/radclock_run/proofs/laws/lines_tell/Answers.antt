@@ -1,5 +1,5 @@
 use Rattle.radclock_run.specs.Runs.{ByLines}
-use Rattle.radclock_run.proofs.Endings.{complete-by, done-by, headline-by, lines-append, lines-rose, made-by, made-truth-by, none-by, ran-by, summary-by, truth-by, usage-by}
+use Rattle.radclock_run.proofs.Endings.{complete-by, converts-by, done-by, headline-by, lines-append, lines-rose, made-by, made-truth-by, none-by, ran-by, summary-by, truth-by, usage-by}
 use Rattle.radclock_run.proofs.laws.lines_tell.Goals as goal
 
 pub returns-clause-done : goal.returns-clause-done
@@ -63,6 +63,14 @@ returns-clause-complete g c =
     let s = g.met.S.Source in
     let k = g.met.K.Sink in
     complete-by g.S.Source.left g.S.Source.faults g.S.Source.pull_gives s.consumes s.cause g.K.Sink.written g.K.Sink.faults
+    (ByLines g.K.Sink.push_gives) (lines-append g.K.Sink.written g.K.Sink.faults g.K.Sink.push_gives k.appends k.cause)
+    (lines-rose g.K.Sink.written g.K.Sink.faults g.K.Sink.push_gives k.appends k.cause)
+
+pub returns-clause-converts : goal.returns-clause-converts
+returns-clause-converts g c =
+    let s = g.met.S.Source in
+    let k = g.met.K.Sink in
+    converts-by g.S.Source.left g.S.Source.faults g.S.Source.pull_gives s.consumes s.cause g.K.Sink.written g.K.Sink.faults
     (ByLines g.K.Sink.push_gives) (lines-append g.K.Sink.written g.K.Sink.faults g.K.Sink.push_gives k.appends k.cause)
     (lines-rose g.K.Sink.written g.K.Sink.faults g.K.Sink.push_gives k.appends k.cause)
 

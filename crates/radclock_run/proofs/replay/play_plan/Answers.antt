@@ -1,5 +1,5 @@
 use Rattle.std.proofs.Common.{[], refl}
-use Rattle.radclock_run.specs.Inputs.{accepted_among}
+use Rattle.radclock_input.specs.Inputs.{accepted_among}
 use Rattle.radclock_run.proofs.Replaying.{are-played, plan-played}
 use Rattle.radclock_run.proofs.replay.play_plan.Goals as goal
 

@@ -6,7 +6,7 @@ use Rattle.stamp_text.specs.Accepted.{accepted_with}
 use Rattle.stamp_text.specs.Past.{test_of}
 use Rattle.stamp_text.specs.declared.lines.Item.TheVariants as item
 use Rattle.report_text.specs.Text.{head_text}
-use Rattle.radclock_run.specs.declared.inputs.ItemLine.{ItemLine}
+use Rattle.radclock_input.specs.declared.files.ItemLine.{ItemLine}
 use Rattle.radclock_run.specs.Reports.{outcomes, is_stamp, is_taken}
 use Rattle.radclock_run.specs.Tellings.{told, told_of, told_text}
 use Rattle.radclock_run.specs.Tallies.{CountsAll}

@@ -1,12 +1,14 @@
 use Rattle.std.proofs.Common.{◌≡◌, List, [], ◌∷◌, Option, None, Some, sym, ◌∙◌, ap, subst}
 use Rattle.clock_words.specs.declared.commands.Command.{Command}
-use Rattle.radclock_run.specs.Inputs.{takes_few, stop_of_file, head_of_file, items_of_file}
+use Rattle.radclock_input.specs.Inputs.{stop_so_far, stop_of_file, head_of_file, items_of_file}
+use Rattle.radclock_input.specs.Pulled.{ReadsTo}
+use Rattle.radclock_run.specs.Asks.{takes_few}
 use Rattle.report_text.specs.Text.{fault_text}
 use Rattle.radclock_run.specs.Statuses.{fault_of, status_of}
 use Rattle.radclock_run.specs.Endings.{EndsWith, Finishes}
-use Rattle.radclock_run.specs.Runs.{ByLines, Ran, ReadsTo}
+use Rattle.radclock_run.specs.Runs.{ByLines, Ran}
 use Rattle.stamp_text.specs.declared.lines.Head.{Head}
-use Rattle.radclock_run.specs.declared.inputs.ItemLine.{ItemLine}
+use Rattle.radclock_input.specs.declared.files.ItemLine.{ItemLine}
 use Rattle.radclock_run.proofs.Running.{run-finished, run-made, run-no-line, run-short, run-stopped, run-summarised}
 use Rattle.radclock_run.proofs.run.run.Goals as goal
 
@@ -48,13 +50,14 @@ returns-in-Ok g c =
     let few : c.takes_few.result ≡ takes_few asked = c.takes_few.ensures in
     let finishes : Head → List ItemLine → Type 0 = λ head items. Finishes g.K.Sink.written g.K.Sink.faults g.K.Sink.push_gives asked head items
     c.args.sink.now c.args.desk.now c.finish.result c.finish.new.sink c.finish.new.desk in
-    let told : finishes (head_of_file ok.0) (items_of_file ok.0) = subst (finishes (head_of_file ok.0)) ok.2.items
-    (subst (λ head. finishes head file.items.items) ok.2.head c.finish.ensures) in
-    let reads = subst (λ few. ReadsTo g.S.Source.pull_gives few c.args.source.now ok.0 None c.read_file.new.source) few ok.1 in
-    let none = subst (λ few. stop_of_file few ok.0 ≡ None) few ok.2.sound in
+    let told : finishes (head_of_file ok.text) (items_of_file ok.text) = subst (finishes (head_of_file ok.text)) ok.gave.items
+    (subst (λ head. finishes head file.items.items) ok.gave.head c.finish.ensures) in
+    let reads = subst (λ few. ReadsTo g.S.Source.pull_gives (stop_so_far few) (stop_of_file few) c.args.source.now ok.text None c.read_file.new.source) few
+    ok.reads in
+    let none = subst (λ few. stop_of_file few ok.text ≡ None) few ok.sound in
     subst (λ (asked : Option Command). Ran g.S.Source.pull_gives (ByLines g.K.Sink.push_gives) asked c.args.source.now c.read_file.new.source
     c.args.sink.now c.finish.new.sink c.args.desk.now c.finish.new.desk c.finish.result) (sym is)
-    (run-finished g.S.Source.pull_gives g.K.Sink.written g.K.Sink.faults g.K.Sink.push_gives asked ok.0 _ _ _ _ _ _ _ c.requires.fresh.journal reads none told)
+    (run-finished g.S.Source.pull_gives g.K.Sink.written g.K.Sink.faults g.K.Sink.push_gives asked ok.text _ _ _ _ _ _ _ c.requires.fresh.journal reads none told)
 
 pub returns-in-Err-read_file : goal.returns-in-Err-read_file
 returns-in-Err-read_file g c =
@@ -62,11 +65,19 @@ returns-in-Err-read_file g c =
     let is = sym line.ensures.value ∙ line.field-0-is ∙ ap (λ x. Some x) line.field-0-0-is in
     let s = c.in-Err-read_file.stop in
     let err = c.in-Err-read_file.ensures.err in
-    let reads = subst (λ few. ReadsTo g.S.Source.pull_gives few c.args.source.now err.0 (Some s) c.read_file.new.source) c.takes_few.ensures err.1 in
+    let reads = subst (λ few. ReadsTo g.S.Source.pull_gives (stop_so_far few) (stop_of_file few) c.args.source.now err.text (Some s)
+    c.read_file.new.source) c.takes_few.ensures err.reads in
     let ends : EndsWith g.K.Sink.written g.K.Sink.faults g.K.Sink.push_gives c.args.sink.now (fault_text (fault_of s) ∷ []) (status_of s)
     c.refuse-in-Err-read_file.result c.refuse-in-Err-read_file.new.sink =
     rw (← c.status_of.ensures, ← c.fault_of.ensures) c.refuse-in-Err-read_file.ensures in
     subst (λ (asked : Option Command). Ran g.S.Source.pull_gives (ByLines g.K.Sink.push_gives) asked c.args.source.now c.read_file.new.source
     c.args.sink.now c.refuse-in-Err-read_file.new.sink c.args.desk.now c.args.desk.now c.refuse-in-Err-read_file.result) (sym is)
-    (run-stopped g.S.Source.pull_gives g.K.Sink.written g.K.Sink.faults g.K.Sink.push_gives line.asked s err.0 _ _ _ _ _ _ c.requires.fresh.journal
-    reads err.2 ends)
+    (run-stopped g.S.Source.pull_gives g.K.Sink.written g.K.Sink.faults g.K.Sink.push_gives line.asked s err.text _ _ _ _ _ _ c.requires.fresh.journal
+    reads err.taken ends)
+
+pub returns-in-Ok-Some-Capture : goal.returns-in-Ok-Some-Capture
+returns-in-Ok-Some-Capture g c =
+    let line = c.in-Ok-Some-Capture in
+    let is = sym line.ensures.value ∙ line.field-0-is ∙ ap (λ x. Some x) line.field-0-0-is in
+    subst (λ (asked : Option Command). Ran g.S.Source.pull_gives (ByLines g.K.Sink.push_gives) asked c.args.source.now c.convert.new.source
+    c.args.sink.now c.convert.new.sink c.args.desk.now c.args.desk.now c.convert.result) (sym is) (c.convert.ensures c.args.desk.now)

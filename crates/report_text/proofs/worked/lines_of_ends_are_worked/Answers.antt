@@ -50,3 +50,15 @@ returns-clause-large c = refl
 pub returns-clause-read : goal.returns-clause-read
 unfolding fault_text digits
 returns-clause-read c = refl
+
+pub returns-clause-cut : goal.returns-clause-cut
+unfolding fault_text digits
+returns-clause-cut c = refl
+
+pub returns-clause-head : goal.returns-clause-head
+unfolding fault_text digits
+returns-clause-head c = refl
+
+pub returns-clause-direction : goal.returns-clause-direction
+unfolding fault_text digits
+returns-clause-direction c = refl

@@ -1,0 +1,9 @@
+pub mod Pulling
+pub mod Heads
+pub mod Accepting
+pub mod Admitting
+pub mod Stopping
+pub mod Gathering
+pub mod Pieces
+pub mod PacketLaws
+pub mod Sound

@@ -1,0 +1,4 @@
+pub mod Pulled
+pub mod Inputs
+pub mod Readings
+pub mod Captured
