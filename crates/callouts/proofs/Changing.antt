@@ -1,12 +1,13 @@
 -- The timers of places of which one has changed.
-use Rattle.std.proofs.Common.{◌≡◌, ◌⊎◌, ℕ, ◌<◌, Option, Some, None, List, length, set, sym, ap, ◌∙◌, subst, arith, inl, inr, length-set, get_or-set_same, get_or-set_other}
+use Rattle.std.proofs.Common.{◌≡◌, ◌⊎◌, ℕ, ◌<◌, Result, Ok, Err, IfOk, IfErr, IfSome, IsNone, Option, Some, None, List, length, set, refl, sym, ap, ◌∙◌, subst, arith, inl, inr, length-set, get_or-set_same, get_or-set_other}
 use Rattle.std.proofs.lemmas.Bool.{cases_eq, cases_lt}
 use Rattle.std.proofs.lemmas.Option.{none-some, same_Some}
 use Rattle.std.proofs.lemmas.List.{get_or_past}
 use Rattle.callouts.specs.declared.timers.Entry.{Entry}
 use Rattle.callouts.specs.declared.timers.Fired.{Fired}
 use Rattle.callouts.specs.declared.timers.Timer.{Timer}
-use Rattle.callouts.specs.Timers.{Kept, timer_in, with_timer, without, IsOf, Lives, Fires}
+use Rattle.callouts.specs.declared.timers.WheelFull.{WheelFull}
+use Rattle.callouts.specs.Timers.{Kept, live, timer_in, with_timer, without, IsOf, Lives, Fires}
 
 -- a timer that lives is in a place
 pub lives_within : (ps : List (Option Entry)) (p : ℕ) (e : Entry) → timer_in ps p ≡ Some e → p < length ps
@@ -54,3 +55,15 @@ of_less k t p of q d is = elim (set_cases k.places p q None (record { id = t.id;
 
 pub of_fired : (old new : Kept) (t : Timer) (now : ℕ) (f : Fired) → IsOf old t → Fires old now f new → IsOf new t
 of_fired old new t now f of fires = subst (λ k. IsOf k t) (sym fires.gone) (of_less old t fires.place of)
+
+-- a timer of a wheel is one where another is added, if there is room for it
+pub of_tried : (old new : Kept) (t : Timer) (due : ℕ) (r : Result Timer WheelFull) → IsOf old t → t.id < old.added
+    → IfErr r (λ e. (e.live ≡ live old) × (new ≡ old)) → IfOk r (λ added. new ≡ with_timer old added.place due) → IsOf new t
+of_tried old new t due (Ok added) of early full more = subst (λ k. IsOf k t) (sym more) (of_more old t added.place due of early)
+of_tried old new t due (Err e) of early full more = subst (λ k. IsOf k t) (sym full.1) of
+
+-- and where one fires, if one is due
+pub of_asked : (old new : Kept) (t : Timer) (now : ℕ) (r : Option Fired) → IsOf old t → IfSome r (λ f. Fires old now f new)
+    → (IsNone r → new ≡ old) → IsOf new t
+of_asked old new t now (Some f) of fires same = of_fired old new t now f of fires
+of_asked old new t now None of fires same = subst (λ k. IsOf k t) (sym (same refl)) of

@@ -4,7 +4,7 @@ use Rattle.std.proofs.lemmas.Bool.{cases_eq, cases_lt}
 use Rattle.callouts.specs.declared.nodes.Node.{Node}
 use Rattle.callouts.specs.Nodes.{key_at, slot_at, hook_at, held_at}
 use Rattle.callouts.specs.Heaps.{AreHeaps}
-use Rattle.callouts.specs.Winners.{first_of, winner_at, AreWinners}
+use Rattle.callouts.specs.Winners.{first_of, winner_at, AreWinners, AreStale}
 use Rattle.callouts.proofs.Playing.{winner_low, winner_high, first_cases, first_leads}
 
 module _ (ns : List Node) (ws : List ℕ) (heaps : AreHeaps ns) where
@@ -26,7 +26,30 @@ module _ (ns : List Node) (ws : List ℕ) (heaps : AreHeaps ns) where
             rw (← same) (rest.0, omega (arith, rest.1))
       ]
 
+  -- what a place has lives, where no place from there on is stale
+  pub winner_lives : (stale : ℕ) → AreStale ns ws stale → (n k : ℕ) → 512 - k < n → stale < k → k < 512 → winner_at ns ws k ≢ 0
+      → hook_at ns (winner_at ns ws k) ≢ 0
+  winner_lives stale but zero k l past within full = absurd (omega arith)
+  winner_lives stale but (suc n) k l past within full = elim (cases_lt k 256) [
+    | inl low ↦
+        let at : winner_at ns ws k ≡ slice_index ws k = winner_low ns ws k low in
+        let played : winner_at ns ws k ≡ first_of ns (winner_at ns ws (2 * k)) (winner_at ns ws (2 * k + 1)) = at
+        ∙ but.played k (omega arith) low (λ z. omega arith) in
+        elim (first_cases ns (winner_at ns ws (2 * k)) (winner_at ns ws (2 * k + 1))) [
+          | inl e ↦ rw (played ∙ e) (winner_lives stale but n (2 * k) (omega arith) (omega arith) (omega arith) (λ z. full (played ∙ e ∙ z)))
+          | inr e ↦ rw (played ∙ e) (winner_lives stale but n (2 * k + 1) (omega arith) (omega arith) (omega arith) (λ z. full (played ∙ e ∙ z)))
+        ]
+    | inr high ↦
+        let at : winner_at ns ws k ≡ held_at ns (2 * (k - 256) + 1) = winner_high ns ws k high in
+        let knows = heaps.knows (2 * (k - 256) + 1) (λ z. full (at ∙ z)) in
+        rw at (λ z. knows.some (sym knows.hook ∙ z))
+  ]
+
   module _ (winners : AreWinners ns ws) where
+    -- no place is stale
+    pub none_stale_at : AreStale ns ws 0
+    none_stale_at = record { places = winners.places; within = winners.within; played = λ k l h _. winners.played k l h }
+
     -- what the last place has fires no later than what any place has
     winner_leads : (n k : ℕ) → k < n → 0 < k → k < 512 → winner_at ns ws k ≢ 0
         → (slice_index ws 1 ≢ 0) × (key_at ns (slice_index ws 1) ≤ key_at ns (winner_at ns ws k))
@@ -48,25 +71,8 @@ module _ (ns : List Node) (ws : List ℕ) (heaps : AreHeaps ns) where
           (rest.0, omega (arith, rest.1, no_later, ap (key_at ns) played))
     ]
 
-    -- what a place has lives
-    pub winner_lives : (n k : ℕ) → 512 - k < n → 0 < k → k < 512 → winner_at ns ws k ≢ 0 → hook_at ns (winner_at ns ws k) ≢ 0
-    winner_lives zero k l some within full = absurd (omega arith)
-    winner_lives (suc n) k l some within full = elim (cases_lt k 256) [
-      | inl low ↦
-          let at : winner_at ns ws k ≡ slice_index ws k = winner_low ns ws k low in
-          let played : winner_at ns ws k ≡ first_of ns (winner_at ns ws (2 * k)) (winner_at ns ws (2 * k + 1)) = at ∙ winners.played k some low in
-          elim (first_cases ns (winner_at ns ws (2 * k)) (winner_at ns ws (2 * k + 1))) [
-            | inl e ↦ rw (played ∙ e) (winner_lives n (2 * k) (omega arith) (omega arith) (omega arith) (λ z. full (played ∙ e ∙ z)))
-            | inr e ↦ rw (played ∙ e) (winner_lives n (2 * k + 1) (omega arith) (omega arith) (omega arith) (λ z. full (played ∙ e ∙ z)))
-          ]
-      | inr high ↦
-          let at : winner_at ns ws k ≡ held_at ns (2 * (k - 256) + 1) = winner_high ns ws k high in
-          let knows = heaps.knows (2 * (k - 256) + 1) (λ z. full (at ∙ z)) in
-          rw at (λ z. knows.some (sym knows.hook ∙ z))
-    ]
-
     pub first_lives : slice_index ws 1 ≢ 0 → hook_at ns (slice_index ws 1) ≢ 0
-    first_lives = winner_lives 512 1 (omega arith) (omega arith) (omega arith)
+    first_lives = winner_lives 0 none_stale_at 512 1 (omega arith) (omega arith) (omega arith)
 
     -- it fires no later than any timer that lives
     pub first_leads_all : (j : ℕ) → hook_at ns j ≢ 0 → (slice_index ws 1 ≢ 0) × (key_at ns (slice_index ws 1) ≤ key_at ns j)

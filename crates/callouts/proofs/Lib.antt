@@ -2,9 +2,12 @@ mod Loose
 mod Turning
 mod Turned
 mod Melding
+mod Passing
+mod Sinking
 mod Playing
 mod Leading
 mod Places
+mod Players
 mod Stale
 mod Putting
 mod Put

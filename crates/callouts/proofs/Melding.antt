@@ -1,35 +1,19 @@
--- Two heaps are melded: how much is left of it, and where it ends.
-use Rattle.std.proofs.Common.{◌≡◌, ◌≢◌, ◌⊎◌, ℕ, ◌-◌, ◌/◌, ◌^◌, ◌<◌, ◌≤◌, nat_eq, if◌then◌else◌, min, List, length, refl, sym, ap, ◌∙◌, subst, arith, inl, inr}
+-- Two heaps are melded: one meld after another, and where it ends.
+use Rattle.std.proofs.Common.{◌≡◌, ◌≢◌, ◌⊎◌, ℕ, ◌/◌, ◌<◌, ◌≤◌, List, length, refl, sym, ap, ◌∙◌, subst, arith, inl, inr}
 use Rattle.std.proofs.lemmas.Bool.{cases_eq}
-use Rattle.std.proofs.lemmas.Bool.Decides.{nat_tests}
 use Rattle.callouts.specs.declared.nodes.Node.{Node}
 use Rattle.callouts.specs.Nodes.{key_at, hook_at, held_at}
-use Rattle.callouts.specs.Heaps.{IsHung, MayHold, Hangs, KnowsHook, AreHeaps, AreTorn, Keeps}
+use Rattle.callouts.specs.Heaps.{IsHung, MayHold, Hangs, KnowsHook, AreApart, AreHeaps, AreTorn, Keeps}
 use Rattle.callouts.proofs.Loose.{within_nodes, may_stays, some_hook, torn_swap}
-
--- as long as there are two heaps, the lesser key of their roots rises
-abbrev pub left_to_meld : List Node → ℕ → ℕ → ℕ
-left_to_meld ns one other = if nat_eq one 0 then 0 else (if nat_eq other 0 then 0 else 2 ^ 192 - min (key_at ns one) (key_at ns other))
-
--- where the root with the lesser key is turned
-pub less_to_meld : (ns new : List Node) (one other next : ℕ) → one ≢ 0 → other ≢ 0 → key_at ns one < 2 ^ 192 → key_at ns one < key_at ns other
-    → ((j : ℕ) → key_at new j ≡ key_at ns j) → (next ≢ 0 → key_at ns one < key_at ns next)
-    → left_to_meld new next other < left_to_meld ns one other
-less_to_meld ns new one other next some there small lt keys after =
-    elim (cases_eq next 0) [
-      | inl z ↦ grind (arith, nat_tests)
-      | inr full ↦
-          let one_same : key_at new next ≡ key_at ns next = keys next in
-          let other_same : key_at new other ≡ key_at ns other = keys other in
-          let later : key_at ns one < key_at ns next = after full in
-          grind (arith, nat_tests)
-    ]
-
-pub left_swap : (ns : List Node) (one other : ℕ) → left_to_meld ns one other ≡ left_to_meld ns other one
-left_swap ns one other = grind (arith, nat_tests)
 
 pub keeps_keys : (ns new : List Node) (h : ℕ) → Keeps ns new h → (j : ℕ) → key_at new j ≡ key_at ns j
 keeps_keys ns new h keeps j = rw (keeps.dues j, keeps.ids j) refl
+
+-- no two timers are the same in the order afterwards
+pub apart_kept : (ns new : List Node) (h : ℕ) → Keeps ns new h → AreApart ns → AreApart new
+apart_kept ns new h keeps apart j k live_j live_k same =
+    apart j k (λ z. live_j (keeps.dead j z)) (λ z. live_k (keeps.dead k z))
+    (sym (keeps_keys ns new h keeps j) ∙ same ∙ keeps_keys ns new h keeps k)
 
 -- one meld after another at a hook of a timer
 pub keeps_on : (old mid new : List Node) (h p : ℕ) → Keeps old mid h → Keeps mid new p → (p ≡ h) ⊎ (512 ≤ p) → Keeps old new h

@@ -1,18 +1,18 @@
 -- A timer has come into a place, and is melded with the heap of its slot.
-use Rattle.std.proofs.Common.{◌≡◌, ◌≢◌, ℕ, ◌+◌, ◌-◌, ◌*◌, ◌/◌, ◌%◌, ◌^◌, ◌<◌, Option, Some, None, List, length, set, sym, ap, ◌∙◌, subst, arith, inl, inr, length-set}
+use Rattle.std.proofs.Common.{◌≡◌, ◌≢◌, ◌⊎◌, ℕ, ◌+◌, ◌-◌, ◌*◌, ◌/◌, ◌%◌, ◌^◌, ◌<◌, Option, Some, None, List, length, set, sym, ap, ◌∙◌, subst, arith, inl, inr, length-set}
 use Rattle.std.proofs.lemmas.Bool.{cases_eq}
 use Rattle.callouts.specs.declared.nodes.Node.{Node}
 use Rattle.callouts.specs.declared.timers.Entry.{Entry}
 use Rattle.callouts.specs.Nodes.{loose_node, key_at, due_at, id_at, hook_at, held_at}
-use Rattle.callouts.specs.Heaps.{AreHeaps, AreApart, AreTorn, Keeps}
+use Rattle.callouts.specs.Heaps.{AreHeaps, AreApart, AreMelding, Keeps}
 use Rattle.callouts.specs.Timers.{timer_in}
 use Rattle.callouts.specs.Winners.{AreStale, AreWinners}
 use Rattle.callouts.specs.Slots.{timer_at, places_in, AreSlots}
 use Rattle.callouts.proofs.Loose.{within_nodes}
-use Rattle.callouts.proofs.Melding.{keeps_keys}
+use Rattle.callouts.proofs.Melding.{keeps_keys, apart_kept}
 use Rattle.callouts.proofs.Places.{length_places, place_at, places_set, timer_live, timer_free, free_timer}
-use Rattle.callouts.proofs.Stale.{winners_stale}
-use Rattle.callouts.proofs.Putting.{loosed, IsPut, here, other, hook_stays, held_stays, new_hook, below, lives_on, torn_put}
+use Rattle.callouts.proofs.Stale.{winners_stale, winners_stay}
+use Rattle.callouts.proofs.Putting.{loosed, IsPut, here, other, hook_stays, held_stays, new_hook, below, lives_on, melding_put}
 
 module _ {ns : List Node} {ws : List ℕ} {i slot : ℕ} {e : Entry} (puts : IsPut ns ws i slot e) (fits : e.id < 2 ^ 64)
     (latest : (j : ℕ) → hook_at ns j ≢ 0 → id_at ns j < e.id) where
@@ -53,10 +53,20 @@ module _ {ns : List Node} {ws : List ℕ} {i slot : ℕ} {e : Entry} (puts : IsP
     pub long_put : length new ≡ length ns
     long_put = keeps.length ∙ length-set ns i (loose_node (2 * slot + 1) e)
 
+    keys_stay : (j : ℕ) → (j ≡ 0) ⊎ (hook_at ns j ≢ 0) → key_at new j ≡ key_at ns j
+    keys_stay j is = keys_kept j
+        (λ z. elim is [ inl none ↦ omega (arith, puts.timer, sym z ∙ none) | inr live ↦ live (ap (hook_at ns) z ∙ puts.is_free) ])
+
     pub stale_put : AreStale new ws ((slot + 256) / 2)
-    stale_put = winners_stale ns new ws puts.slots.heaps puts.slots.winners long_put
-        (λ j is. keys_kept j (λ z. elim is [ inl none ↦ omega (arith, puts.timer, sym z ∙ none) | inr live ↦ live (ap (hook_at ns) z ∙ puts.is_free) ]))
-        slot (λ h l ne. keeps.roots h l ne ∙ held_stays puts h (λ z. omega (arith, puts.timer))) (below puts)
+    stale_put = winners_stale ns new ws puts.slots.heaps puts.slots.winners long_put keys_stay slot (λ h l ne. keeps.roots h l ne ∙ held_stays puts h (λ z. omega (arith, puts.timer))) (below puts)
+
+    -- where the root of its slot is the same
+    pub winners_put : held_at new (2 * slot + 1) ≡ held_at ns (2 * slot + 1) → AreWinners new ws
+    winners_put root = winners_stay ns new ws puts.slots.heaps puts.slots.winners long_put keys_stay
+        (λ h l. elim (cases_eq h (2 * slot + 1)) [
+          | inl e ↦ ap (held_at new) e ∙ root ∙ ap (held_at ns) (sym e)
+          | inr ne ↦ keeps.roots h l ne ∙ held_stays puts h (λ z. omega (arith, puts.timer))
+        ])
 
     pub slots_put : AreHeaps new → (ws' : List ℕ) → AreWinners new ws' → AreSlots new ws'
     slots_put heaps ws' winners = record {
@@ -64,8 +74,7 @@ module _ {ns : List Node} {ws : List ℕ} {i slot : ℕ} {e : Entry} (puts : IsP
       few = rw long_put puts.slots.few;
       heaps = heaps;
       winners = winners;
-      apart = λ j k live_j live_k same. apart_put j k (λ z. live_j (keeps.dead j z)) (λ z. live_k (keeps.dead k z))
-          (sym (keeps_keys _ _ _ keeps j) ∙ same ∙ keeps_keys _ _ _ keeps k);
+      apart = apart_kept _ _ _ keeps apart_put;
       ids = λ j live. rw (keeps.ids j) (elim (cases_eq j i) [
         | inl z ↦ subst (λ n. n < 2 ^ 64) (sym (ap (id_at (loosed ns i slot e)) z ∙ ap (λ (n : Node). n.id) (here puts))) fits
         | inr ne ↦ subst (λ n. n < 2 ^ 64) (sym (ap (λ (n : Node). n.id) (other puts j ne)))
@@ -100,8 +109,8 @@ module _ (ns put : List Node) (ws : List ℕ) (ps : List (Option Entry)) (place 
   puts : IsPut ns ws (256 + place) slot e
   puts = record { slots = slots; timer = omega arith; within = omega (arith, in_places); is_free = free; at = at }
 
-  pub insert_torn : AreTorn put (2 * slot + 1) (256 + place) (held_at ns (2 * slot + 1))
-  insert_torn = rw is (torn_put puts)
+  pub insert_melding : AreMelding put (2 * slot + 1) (256 + place)
+  insert_melding = rw is (melding_put puts)
 
   module _ (fits : e.id < 2 ^ 64) (latest : (p : ℕ) (o : Entry) → timer_in ps p ≡ Some o → o.id < e.id) where
     -- each live timer was added earlier
@@ -121,6 +130,9 @@ module _ (ns put : List Node) (ws : List ℕ) (ps : List (Option Entry)) (place 
 
       pub insert_stale : AreStale new ws ((slot + 256) / 2)
       insert_stale = stale_put puts fits earlier new kept
+
+      pub insert_winners : held_at new (2 * slot + 1) ≡ held_at ns (2 * slot + 1) → AreWinners new ws
+      insert_winners = winners_put puts fits earlier new kept
 
       pub insert_slots : AreHeaps new → (ws' : List ℕ) → AreWinners new ws' → AreSlots new ws'
       insert_slots = slots_put puts fits earlier new kept

@@ -4,9 +4,9 @@ use Rattle.std.proofs.lemmas.Bool.{cases_eq, cases_lt}
 use Rattle.callouts.specs.declared.nodes.Node.{Node}
 use Rattle.callouts.specs.declared.timers.Entry.{Entry}
 use Rattle.callouts.specs.Nodes.{loose_node, node_at, key_at, slot_at, hook_at, held_at}
-use Rattle.callouts.specs.Heaps.{MayHold, AreTorn}
+use Rattle.callouts.specs.Heaps.{MayHold, AreTorn, AreMelding}
 use Rattle.callouts.specs.Slots.{AreSlots}
-use Rattle.callouts.proofs.Loose.{held_knows}
+use Rattle.callouts.proofs.Loose.{torn_swap, held_knows}
 use Rattle.callouts.proofs.Places.{node_here, node_other, hook_other, held_other, held_was}
 
 -- with a node that is a timer's, which is to hang from the root hook of its slot
@@ -64,7 +64,7 @@ module _ {ns : List Node} {ws : List ℕ} {i slot : ℕ} {e : Entry} (puts : IsP
         before = λ m. omega (arith, is.before m, same_key, ap (λ (n : Node). n.due * 2 ^ 64 + n.id) (other (p / 2) (lives_on (p / 2) (is.lives m)).0));
       }
 
-  pub torn_put : AreTorn (loosed ns i slot e) (2 * slot + 1) i (held_at ns (2 * slot + 1))
+  torn_put : AreTorn (loosed ns i slot e) (2 * slot + 1) i (held_at ns (2 * slot + 1))
   torn_put = record {
     loose_one = λ _. record {
       timer = puts.timer;
@@ -122,3 +122,12 @@ module _ {ns : List Node} {ws : List ℕ} {i slot : ℕ} {e : Entry} (puts : IsP
       | inr live ↦ absurd (omega (arith, (puts.slots.heaps.hangs 0 live).timer))
     ];
   }
+
+  -- it may be melded with the root of its slot
+  pub melding_put : AreMelding (loosed ns i slot e) (2 * slot + 1) i
+  melding_put =
+      let same : held_at (loosed ns i slot e) (2 * slot + 1) ≡ held_at ns (2 * slot + 1) = held_stays (2 * slot + 1) (λ z. omega (arith, puts.timer, below)) in
+      record {
+        torn = rw same (torn_swap _ _ _ _ torn_put);
+        knows = rw same (λ full. let k = held_knows ns puts.slots.heaps (2 * slot + 1) full in hook_stays _ (lives_on _ k.2).0 ∙ k.1);
+      }

@@ -6,14 +6,14 @@ use Rattle.callouts.specs.Nodes.{key_at, hook_at, held_at}
 use Rattle.callouts.specs.Heaps.{AreHeaps}
 use Rattle.callouts.specs.Winners.{winner_at, IsPlayed, AreWinners, AreStale}
 use Rattle.callouts.proofs.Playing.{winner_low, winner_high}
-use Rattle.callouts.proofs.Leading.{winner_lives}
+use Rattle.callouts.proofs.Leading.{none_stale_at, winner_lives}
 
 module _ (ns new : List Node) (ws : List ℕ) (heaps : AreHeaps ns) (winners : AreWinners ns ws) (same_length : length new ≡ length ns)
     (keys : (j : ℕ) → (j ≡ 0) ⊎ (hook_at ns j ≢ 0) → key_at new j ≡ key_at ns j) where
   there : (k : ℕ) → 0 < k → k < 512 → (winner_at ns ws k ≡ 0) ⊎ (hook_at ns (winner_at ns ws k) ≢ 0)
   there k some within = elim (cases_eq (winner_at ns ws k) 0) [
     | inl z ↦ inl z
-    | inr full ↦ inr (winner_lives ns ws heaps winners 513 k (omega arith) some within full)
+    | inr full ↦ inr (winner_lives ns ws heaps 0 (none_stale_at ns ws heaps winners) 513 k (omega arith) some within full)
   ]
 
   -- a place whose two below have the same timers

@@ -10,7 +10,7 @@ use Rattle.callouts.specs.Heaps.{AreHeaps, AreApart, AreTorn, Keeps}
 use Rattle.callouts.specs.Timers.{timer_in}
 use Rattle.callouts.specs.Winners.{AreStale, AreWinners}
 use Rattle.callouts.specs.Slots.{timer_at, places_in, AreSlots}
-use Rattle.callouts.proofs.Melding.{keeps_keys}
+use Rattle.callouts.proofs.Melding.{apart_kept}
 use Rattle.callouts.proofs.Places.{length_places, place_at, places_set, timer_live, timer_free}
 use Rattle.callouts.proofs.Stale.{winners_stale, winners_stay}
 use Rattle.callouts.proofs.Taking.{freed, IsTaken, hung, hook_stays, held_stays, new_hook, dues, ids, torn_taken, lived, apart_taken}
@@ -41,8 +41,7 @@ module _ {ns : List Node} {ws : List ℕ} {i : ℕ} (t : IsTaken ns ws i) (new :
     few = rw long_taken t.slots.few;
     heaps = heaps;
     winners = winners;
-    apart = λ j k live_j live_k same. apart_taken t j k (λ z. live_j (keeps.dead j z)) (λ z. live_k (keeps.dead k z))
-        (sym (keeps_keys _ _ _ keeps j) ∙ same ∙ keeps_keys _ _ _ keeps k);
+    apart = apart_kept _ _ _ keeps (apart_taken t);
     ids = λ j live_j. rw (keeps.ids j ∙ ids t j) (t.slots.ids j (lived t j (λ z. live_j (keeps.dead j z))));
   }
 
@@ -71,8 +70,8 @@ module _ (ns bare : List Node) (ws : List ℕ) (ps : List (Option Entry)) (place
   taken = record { slots = slots; live = remove_lives.1 }
 
   module _ (is : bare ≡ freed ns (256 + place)) (at : hook ≡ hook_at ns (256 + place)) where
-    pub remove_torn : AreTorn bare hook (held_at ns (2 * (256 + place))) (held_at ns (2 * (256 + place) + 1))
-    remove_torn = rw (is, at) (torn_taken taken)
+    pub remove_torn : AreTorn bare hook (held_at ns (2 * (256 + place) + 0)) (held_at ns (2 * (256 + place) + 1))
+    remove_torn = let first : 2 * (256 + place) + 0 ≡ 2 * (256 + place) = omega arith in rw (is, at, first) (torn_taken taken)
 
     pub remove_apart : AreApart bare
     remove_apart = rw is (apart_taken taken)

@@ -5,6 +5,7 @@ mod asked;
 mod firings;
 mod heaps;
 mod laws;
+mod links;
 mod nodes;
 mod slots;
 #[cfg(test)]

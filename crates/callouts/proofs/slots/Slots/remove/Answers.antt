@@ -1,4 +1,5 @@
 use Rattle.std.proofs.Common.{length, ap, arith}
+use Rattle.callouts.proofs.Melding.{apart_kept}
 use Rattle.callouts.proofs.Places.{length_places}
 use Rattle.callouts.proofs.Taken.{remove_torn, remove_apart, remove_stale, remove_winners, remove_slots, remove_places}
 use Rattle.callouts.proofs.slots.Slots.remove.Goals as goal
@@ -6,11 +7,11 @@ use Rattle.callouts.proofs.slots.Slots.remove.Goals as goal
 pub hook-hook-requires : goal.hook-hook-requires
 hook-hook-requires c = omega (arith, length_places c.self.inside.nodes, ap length c.self.view_is)
 
-pub held-first-requires : goal.held-first-requires
-held-first-requires c = omega (arith, length_places c.self.inside.nodes, ap length c.self.view_is)
+pub kid-first-requires : goal.kid-first-requires
+kid-first-requires c = omega (arith, length_places c.self.inside.nodes, ap length c.self.view_is)
 
-pub held-second-requires : goal.held-second-requires
-held-second-requires c = omega (arith, length_places c.self.inside.nodes, ap length c.self.view_is)
+pub kid-second-requires : goal.kid-second-requires
+kid-second-requires c = omega (arith, length_places c.self.inside.nodes, ap length c.self.view_is)
 
 pub free-requires : goal.free-requires
 free-requires c = omega (arith, length_places c.self.inside.nodes, ap length c.self.view_is)
@@ -20,8 +21,12 @@ meld-requires-clause-apart c = remove_apart _ _ _ _ _ _ c.self.view_is c.self.in
 
 pub meld-requires-clause-torn : goal.meld-requires-clause-torn
 meld-requires-clause-torn c =
-    rw (c.held-first.ensures, c.held-second.ensures) (remove_torn _ _ _ _ _ _ c.self.view_is c.self.invariant c.requires.lives c.free.ensures
+    rw (c.kid-first.ensures, c.kid-second.ensures) (remove_torn _ _ _ _ _ _ c.self.view_is c.self.invariant c.requires.lives c.free.ensures
     c.hook-hook.ensures)
+
+pub play-requires-clause-apart : goal.play-requires-clause-apart
+play-requires-clause-apart c =
+    apart_kept _ _ _ c.meld.ensures.keeps (remove_apart _ _ _ _ _ _ c.self.view_is c.self.invariant c.requires.lives c.free.ensures c.hook-hook.ensures)
 
 pub play-requires-clause-stale : goal.play-requires-clause-stale
 play-requires-clause-stale c = remove_stale _ _ _ _ _ _ c.self.view_is c.self.invariant c.requires.lives c.free.ensures c.hook-hook.ensures _

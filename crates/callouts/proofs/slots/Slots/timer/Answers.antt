@@ -16,6 +16,6 @@ returns-then-hook-eq0 c =
 pub returns : goal.returns
 returns c =
     let ns = c.self.inside.nodes in
-    rw (c.id.ensures, c.due.ensures) (sym (ap (λ ps. timer_in ps c.args.place) (sym c.self.view_is)
+    rw c.timer.ensures (sym (ap (λ ps. timer_in ps c.args.place) (sym c.self.view_is)
     ∙ place_at ns c.args.place (omega (arith, length_places ns, ap length c.self.view_is))
     ∙ timer_live ns (256 + c.args.place) (λ z. c.if-hook-eq0.false (c.hook.ensures ∙ z))))
