@@ -21,7 +21,7 @@ tools:
 	$(MAKE) -C tools/collect
 
 test-tools: tools
-	set -e; for tool in tools/*/test_*.py; do (cd "$$(dirname "$$tool")" && python3 -m unittest -q "$$(basename "$$tool" .py)"); done
+	set -e; for tool in tools/*/test_*.py bench/beside/test_*.py; do (cd "$$(dirname "$$tool")" && python3 -m unittest -q "$$(basename "$$tool" .py)"); done
 
 # The built program over the real captures of sample/.
 test-samples: $(RADCLOCK)
