@@ -28,6 +28,7 @@ struct options {
     bool plain;          /* counts are those at the calls */
     bool quiet;          /* no lines of progress */
     bool now;            /* the counter alone is wanted */
+    bool system;         /* and the system's clock beside it */
 };
 
 struct totals {
@@ -109,11 +110,11 @@ static void tell_losses(struct progress *p, enum verdict verdict, const struct o
     bool lost = verdict == NO_REPLY || verdict == NOBODY;
     p->row = lost ? p->row + 1 : 0;
     if (verdict == NOBODY && !p->nobody) {
-        say("nobody is at port %s of %s; it is asked on", o->port, o->server);
+        say("nobody is at port %s of %s; it goes on asking", o->port, o->server);
         p->nobody = true;
     }
     if (p->row == 3 && !p->told_row && !p->nobody) {
-        say("three requests in a row had no reply; the server is asked on");
+        say("three requests in a row had no reply; it goes on asking");
         p->told_row = true;
     }
 }
@@ -194,7 +195,7 @@ static int usage(void)
 {
     fputs("usage: collect [OPTIONS] SERVER >FILE\n"
           "       collect [OPTIONS] -a FILE SERVER\n"
-          "       collect --now [-m] [-a FILE]\n"
+          "       collect --now [--system] [-m] [-a FILE]\n"
           "  -1  the file is of version 1, without strata and leap seconds\n"
           "  -a  goes on with this file, which was taken by the same counter\n"
           "  -r  writes a capture of all packets to this new file\n"
@@ -206,7 +207,8 @@ static int usage(void)
           "  -e  how often it says how it goes, in s, 1 to 86400 (60)\n"
           "  -q  it does not say how it goes\n"
           "  --plain  counts are those at the calls, not those of the system's stamps\n"
-          "  --now    prints the counter as it stands, and asks no server\n",
+          "  --now    prints the counter as it stands, and asks no server\n"
+          "  --system prints behind it the system's clock, read right before and right behind it\n",
           stderr);
     return 2;
 }
@@ -234,6 +236,7 @@ static bool read_option(int letter, struct options *o)
     case 'q': o->quiet = true; return true;
     case 'P': o->plain = true; return true;
     case 'N': o->now = true; return true;
+    case 'S': o->system = true; return true;
     default: return false;
     }
 }
@@ -241,7 +244,10 @@ static bool read_option(int letter, struct options *o)
 static bool read_words(int argc, char **argv, struct options *o)
 {
     static const struct option longs[] = {
-        {"plain", no_argument, NULL, 'P'}, {"now", no_argument, NULL, 'N'}, {0}};
+        {"plain", no_argument, NULL, 'P'},
+        {"now", no_argument, NULL, 'N'},
+        {"system", no_argument, NULL, 'S'},
+        {0}};
     *o = (struct options){.port = "123", .exchanges = 500, .spacing = 16000, .wait = 1000,
                           .telling = 60};
     int letter;
@@ -250,7 +256,12 @@ static bool read_words(int argc, char **argv, struct options *o)
     }
     if (o->wait > o->spacing) o->wait = o->spacing;
     if (optind < argc) o->server = argv[optind];
-    return argc - optind == (o->now ? 0 : 1);
+    return argc - optind == (o->now ? 0 : 1) && (o->now || !o->system);
+}
+
+static void print_system(uint64_t nanos)
+{
+    printf(" %" PRIu64 ".%09" PRIu64, nanos / NANOS_PER_SECOND, nanos % NANOS_PER_SECOND);
 }
 
 static int print_now(const struct options *o)
@@ -258,7 +269,16 @@ static int print_now(const struct options *o)
     struct counter counter = pick_counter(o->raw_clock, 10);
     struct file file = {.first = o->first};
     if (o->file != NULL && !take_over(o->file, &file, &counter)) return 1;
-    return printf("%" PRIu64 "\n", read_counter(&counter)) > 0 && fclose(stdout) == 0 ? 0 : 1;
+    uint64_t before = clock_nanos(CLOCK_REALTIME);
+    uint64_t count = read_counter(&counter);
+    uint64_t behind = clock_nanos(CLOCK_REALTIME);
+    printf("%" PRIu64, count);
+    if (o->system) {
+        print_system(before);
+        print_system(behind);
+    }
+    putchar('\n');
+    return !ferror(stdout) && fclose(stdout) == 0 ? 0 : 1;
 }
 
 int main(int argc, char **argv)

@@ -315,7 +315,20 @@ class GoingOn(unittest.TestCase):
         run = subprocess.run([PROGRAM, "--now"], capture_output=True, text=True)
         _, after = self.again()
         self.assertTrue(before < int(run.stdout) < int(pairs(after)[-1][1][0]))
-        self.assertEqual(subprocess.run([PROGRAM, "--now", "a"], capture_output=True).returncode, 2)
+        for words in (["--now", "a"], ["--system"], ["--system", "127.0.0.1"]):
+            self.assertEqual(subprocess.run([PROGRAM, *words], capture_output=True).returncode, 2)
+
+    def test_now_beside_the_systems_clock(self):
+        for words in ([], ["-m"]):
+            low = raw(), time.time_ns()
+            run = subprocess.run([PROGRAM, "--now", "--system", *words], capture_output=True, text=True)
+            high = raw(), time.time_ns()
+            found = re.fullmatch(r"(\d+) (\d+)\.(\d{9}) (\d+)\.(\d{9})\n", run.stdout)
+            before, behind = int(found[2] + found[3]), int(found[4] + found[5])
+            self.assertTrue(low[1] <= before <= behind <= high[1])
+            if words:
+                self.assertTrue(low[0] <= int(found[1]) <= high[0])
+                self.assertLess(abs(before - low[1] - (int(found[1]) - low[0])), 10**8)
 
 
 class Stamps(unittest.TestCase):

@@ -122,6 +122,6 @@ class Stamper:
     def left(self):
         """What is to be said at the end of counts that were left, or None."""
         if self.before + self.after:
-            return (f"{self.before + self.after} counts are left as they are: {self.before} before the first time that is known, "
+            return (f"counts that are left as they are: {self.before} before the first time that is known, "
                     f"{self.after} beyond the journal, which goes from {self.journal.counts[0]} to {self.journal.reach}")
         return "no line has a count there" if self.without and not self.told else None

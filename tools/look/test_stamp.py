@@ -89,7 +89,7 @@ class Stamp(unittest.TestCase):
         status, out, err = stamped(["--exact"], trace)
         inside = exact_words(LINES[-1], LAST, "-")
         self.assertEqual((status, out), (1, f"{FIRST - 1} x\n{inside} y\n{LAST + 1} z\n"))
-        self.assertEqual(err, "look: 2 counts are left as they are: 1 before the first time that is known, 1 beyond the journal, "
+        self.assertEqual(err, "look: counts that are left as they are: 1 before the first time that is known, 1 beyond the journal, "
                               f"which goes from {FIRST} to {LAST}\n")
         beyond = exact_words(LINES[-1], LAST + 1, "B")
         self.assertEqual(stamped(["--exact", "--beyond"], trace)[:2], (1, f"{FIRST - 1} x\n{inside} y\n{beyond} z\n"))

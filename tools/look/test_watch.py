@@ -5,12 +5,14 @@ import stat
 import tempfile
 import time
 import unittest
-from fractions import Fraction
+from unittest import mock
 
+import watch
 from test_look import DATA, GRAINS, data, grains, look
 
 ESTIMATES = [line.split(" ") for line in data("estimate.txt").splitlines() if line.startswith("estimate ")]
 OFFS = [1000 * (k - 5) ** 2 for k in range(len(ESTIMATES))]  # ns
+NOON = 1_700_049_600
 
 
 def stamps(head=""):
@@ -68,11 +70,15 @@ class SystemClock(Folder):
 
 
 class Watch(Folder):
-    def watched(self, stamps_text, count, report=None, rounds="1"):
-        """What is shown of a file, by a program that keeps what it is given, and a counter that stands at a count."""
+    def program_and_collect(self, count, report=None):
+        """A program that keeps what it is given, and a counter that stands at a count while the system's clock passes noon."""
         path = self.file("report", report or data("estimate.txt"))
         program = self.program("radclock", f'[ "$*" = estimate ] && cat > {self.folder}/given && cat {path}\n')
-        collect = self.program("collect", f'[ "$*" = --now ] && echo {count}\n')
+        return program, self.program("collect", f'[ "$*" = "--now --system" ] && echo {count} {NOON - 1}.999999950 {NOON}.000000060\n')
+
+    def watched(self, stamps_text, count, report=None, rounds="1"):
+        """What is shown of a file."""
+        program, collect = self.program_and_collect(count, report)
         status, out, err = look(["watch", "--rounds", rounds, "--every", "1", "--program", program, "--collect", collect,
                                  self.file("stamps", stamps_text)])
         self.assertEqual(err, "")
@@ -89,11 +95,12 @@ class Watch(Folder):
         self.assertEqual(status, 0)
         summary = look(["summary", "--exchanges", os.path.join(self.folder, "stamps")], data("estimate.txt"))[1]
         self.assertTrue(out.startswith(summary))
-        time_now = grains(last[3]) + 24 * 10**9 * int(last[4])
-        seconds, rest = divmod(time_now * 10**9 // GRAINS, 10**9)
+        now = grains(last[3]) + 24 * 10**9 * int(last[4])
+        seconds, rest = divmod(now * 10**9 // GRAINS, 10**9)
         self.assertIn(f"Now by counter: {time.strftime('%Y-%m-%d %H:%M:%S', time.gmtime(seconds))}.{rest:09d} UTC, off by ", out)
-        ahead = float(re.search(r"Now by system : .* ahead by \+([0-9.]+) us \(read within \d+ ns", out)[1])
-        self.assertLess(abs(time.time() - float(Fraction(time_now, GRAINS)) - ahead / 10**6), 60)
+        ahead = ((NOON * 10**9 + 5) * GRAINS // 10**9 - now) * 10**9 // GRAINS
+        self.assertIn(f"Now by system : 2023-11-15 12:00:00.000000005 UTC, ahead by +{ahead // 1000}.{ahead % 1000:03d} us "
+                      "(read within 55 ns of the counter)\n", out)
 
     def test_the_bound_of_now(self):
         last = ESTIMATES[-1]
@@ -116,12 +123,24 @@ class Watch(Folder):
         self.assertIn(now, self.watched(less, count + 2**61)[1])
         self.assertIn(now, self.watched(less, count)[1])
         self.assertIn("Now           : not known: the counter stands at 5, before the last", self.watched(stamps(), 5)[1])
-        self.assertIn("--now` tells no count", self.watched(stamps(), "x")[1])
+        self.assertIn("--now --system` tells no count", self.watched(stamps(), "x")[1])
+        self.assertIn("--now --system` tells no count", self.watched(stamps(), f"{count}; exit 1 #")[1])
         raw = self.watched(stamps("# The counter is CLOCK_MONOTONIC_RAW, in ns.\n"), "x")[1]
         self.assertRegex(raw, "Now by counter|before the last estimate")
 
     def test_rounds(self):
         self.assertEqual(self.watched(stamps(), 10**12, rounds="2")[1].count("Counter  "), 2)
+
+    def test_where_the_programs_are(self):
+        tool = os.path.join(self.folder, "lib", "radclock", "look")
+        for folder in (tool, "bin", "path", os.path.join("lib", "out")):
+            os.makedirs(os.path.join(self.folder, folder))
+        built, installed, on_path = (os.path.join(self.folder, *place, "p") for place in (("lib", "out"), ("bin",), ("path",)))
+        with mock.patch.object(watch, "HERE", tool), mock.patch.dict(os.environ, PATH=os.path.dirname(on_path)):
+            self.assertEqual(watch.program_at("p", os.path.join("out", "p")), "p")
+            for path in (on_path, installed, built):
+                self.program(path, "")
+                self.assertEqual(watch.program_at("p", os.path.join("out", "p")), path)
 
     def test_what_cannot_be(self):
         path = self.file("stamps", stamps())

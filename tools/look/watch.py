@@ -1,8 +1,11 @@
 """`look watch`: where the daemon and the clock stand, again and again while `collect` writes."""
 import os
+import re
+import shutil
 import subprocess
 import sys
 import time
+from collections import namedtuple
 
 import clock
 import summary
@@ -10,11 +13,24 @@ from exchanges import micros, read_exchanges
 from journal import Journal
 from report import GRAINS, Wrong, read_report
 
-TOP = os.path.dirname(os.path.dirname(os.path.dirname(os.path.abspath(__file__))))
-PROGRAM = os.path.join(TOP, "crates", "radclock", "out", "radclock")  # where `rt run` builds it
-COLLECT = os.path.join(TOP, "tools", "collect", "collect")
+HERE = os.path.dirname(os.path.abspath(__file__))
 CLEAR = "\x1b[H\x1b[2J"
 COLLECT_WAIT = 10  # seconds
+NOW = re.compile(rb"([0-9]{1,20}) ([0-9]{1,12})\.([0-9]{9}) ([0-9]{1,12})\.([0-9]{9})\n")
+
+# A count, and the system's clock right before and right behind its reading, in nanoseconds since 1970.
+Moment = namedtuple("Moment", "count before behind")
+
+
+def program_at(name, built):
+    """A program: as it was built in this repository, else beside an installed `look`, else on the path."""
+    top = os.path.join(HERE, "..", "..")
+    found = [path for path in (os.path.join(top, built), os.path.join(top, "..", "bin", name)) if os.access(path, os.X_OK)]
+    return os.path.normpath(found[0]) if found else shutil.which(name) or name
+
+
+PROGRAM = program_at("radclock", os.path.join("crates", "radclock", "out", "radclock"))  # where `rt run` builds it
+COLLECT = program_at("collect", os.path.join("tools", "collect", "collect"))
 
 
 def whole_lines(path):
@@ -36,25 +52,31 @@ def estimate(program, stamps):
     return read_report(done.stdout.decode("ascii", "replace"))
 
 
-def counter_now(collect, exchanges):
-    """The count now, by the counter that the file was collected by."""
-    if exchanges.is_raw_clock:
-        return time.clock_gettime_ns(time.CLOCK_MONOTONIC_RAW)
+def moment_by(collect):
+    """The counter now and the system's clock beside it, as `collect` reads both."""
     try:
-        done = subprocess.run([collect, "--now"], capture_output=True, timeout=COLLECT_WAIT, check=True)
-        count = int(done.stdout)
-    except (OSError, ValueError, subprocess.SubprocessError):
-        raise Wrong(f"`{collect} --now` tells no count") from None
-    return count - exchanges.base if count >= exchanges.base else count
+        done = subprocess.run([collect, "--now", "--system"], capture_output=True, timeout=COLLECT_WAIT, check=True)
+    except (OSError, subprocess.SubprocessError):
+        done = None
+    found = done and NOW.fullmatch(done.stdout)
+    if not found:
+        raise Wrong(f"`{collect} --now --system` tells no count")
+    return Moment(int(found[1]), int(found[2] + found[3]), int(found[4] + found[5]))
+
+
+def moment_now(collect, exchanges):
+    """The same by the counter that the file was collected by."""
+    if exchanges.is_raw_clock:
+        return Moment(before=time.time_ns(), count=time.clock_gettime_ns(time.CLOCK_MONOTONIC_RAW), behind=time.time_ns())
+    now = moment_by(collect)
+    return now._replace(count=now.count - exchanges.base) if now.count >= exchanges.base else now
 
 
 def now_lines(report, exchanges, collect):
-    """The time now by the counter, beside the system's clock, which is read before and behind the counter."""
+    """The time now by the counter, beside the system's clock."""
     try:
         tick = Journal(report, from_zero=False).ticks[-1]
-        before = time.time_ns()
-        count = counter_now(collect, exchanges)
-        after = time.time_ns()
+        count, before, behind = moment_now(collect, exchanges)
     except Wrong as wrong:
         yield "Now", f"not known: {wrong}"
         return
@@ -62,9 +84,10 @@ def now_lines(report, exchanges, collect):
         yield "Now", f"not known: the counter stands at {count}, before the last estimate. Is it another computer, or was it started anew?"
         return
     now, bound = clock.utc(tick, count), clock.nanos_ceil(clock.time_bound(tick, count))
-    off, half = (before + after) // 2 * GRAINS // clock.NANOS - now, (after - before + 1) // 2
+    middle, half = (before + behind) // 2, (behind - before + 1) // 2
+    ahead = micros(middle * GRAINS // clock.NANOS - now)
     yield "Now by counter", clock.date(clock.nanos_floor(now)) + (f", off by {bound} ns at most" if clock.is_bounded(tick) else ", without a bound")
-    yield "Now by system", f"{clock.date((before + after) // 2)}, ahead by {micros(off)} (read within {half} ns of the counter)"
+    yield "Now by system", f"{clock.date(middle)}, ahead by {ahead} (read within {half} ns of the counter)"
 
 
 def lines(path, program, collect):
