@@ -66,12 +66,7 @@ impl Intake for CaptureReader {
     ghost gives = { λ rules text file. IsFileOf file text };
 
     fn take(&mut self, piece: &[u8]) -> Result<(), Stop> {
-        match take_piece(
-            &mut self.capture,
-            &mut self.matcher,
-            &mut self.file,
-            piece,
-        ) {
+        match take_piece(&mut self.capture, &mut self.matcher, &mut self.file, piece) {
             Ok(()) => Ok(()),
             Err(stop) => Err(stop_of(stop)),
         }
