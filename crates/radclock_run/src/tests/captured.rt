@@ -147,7 +147,7 @@ fn bytes_of_a_capture_have_a_limit(rt: HostRuntime) -> Result<(), Fail> {
     // Records of 65,546 bytes that are no request, and one that ends at the limit.
     let mut bytes = Vec::from_slice(rt.alloc(), &SAMPLE[..16])?;
     for i in 0..256 {
-        let packet: u16 = if i < 255 { 65_535 } else { 62_949 };
+        let packet: u16 = if i < 255 { 65_535 } else { 62_959 };
         bytes.extend_from_slice(&[0, 0, 0, 0, 0, 0, 0, 9, 1])?;
         bytes.extend_from_slice(&packet.to_be_bytes())?;
         bytes.resize(bytes.len() + usize::from(packet), 0)?;
